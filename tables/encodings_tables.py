@@ -62,7 +62,7 @@ use kmip_tags::tags;
 use kmip_wire::Tag;
 
 /// The tag of the enumeration of the attribute's values; Attribute Value where it has none.
-pub(crate) fn attribute_tag(name: &str) -> Tag
+pub fn attribute_tag(name: &str) -> Tag
     ensures {{ result ≡ attribute_tag name.now }}
 {{
     match name {{

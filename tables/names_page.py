@@ -5,29 +5,24 @@ from spelling import spelled
 HEAD = """\
 # Names
 
-What the options of calls take, and what JSON and XML have for the numbers of KMIP 1.2.
-
 ## Values of options
 
 An option takes names of an enumeration below, in every client; where a value has two names, the one
-in brackets. `kmip_call --help` lists them.
+in brackets. `kmip_call --help` lists them all. `operation NAME` takes either name.
 
-| option, or word | values |
+| option, or word | enumeration |
 |---|---|
 {options}
-| `operation NAME` | Operation, by either name |
 
 ## Enumerations in JSON and XML
 
 A number is written as its name; one without a name as `0x` and eight digits, a form that is read for
 every number. A name in brackets is that of kmip-protocol: read, and never written. The numbers here
-are in hex, and grow by 1 from name to name.
+are in hex, and grow by 1 from name to name. The enumerations are those of KMIP 1.2, 9.1.3.2, whose
+text `tables/spelling.py` spells by the rule of OASIS's encodings.
 
-The names are made of KMIP's text (`tables/enumerations.toml`) by the rule of OASIS's encodings
-(`tables/spelling.py`).
-
-| enumeration | tag | KMIP 1.2: 9.1.3.2. | values |
-|---|---|---|---|
+| enumeration | values |
+|---|---|
 """
 
 # Each option or word with the enumeration of its values, in the order of docs/CALL.md.
@@ -45,13 +40,13 @@ OPTIONS = [
 
 def option_row(option, table, tags):
     """An option: its names, or the enumeration whose names they are, all of them or the first ones."""
-    names = ", ".join(value.variant for value in table.typed)
+    names = [value.variant for value in table.typed]
     if table.mask:
-        shown = f"{names}; `,` stands between two"
-    elif len(table.typed) == len(table.values):
+        shown = f"{', '.join(names)}; `,` stands between two"
+    elif len(names) == len(table.values):
         shown = tags[table.tag]
     else:
-        shown = f"{tags[table.tag]}: {names}"
+        shown = f"{tags[table.tag]}, {names[0]} to {names[-1]}"
     return f"| {option} | {shown} |"
 
 
@@ -67,7 +62,7 @@ def enumeration_row(table, tag):
     for at, value in enumerate(table.values):
         follows = at % 8 and value.number == table.values[at - 1].number + 1
         shown.append(named(value) if follows else f"{value.number:X} {named(value)}")
-    return f"| {tag} | {table.tag:06X} | {table.section.removeprefix('9.1.3.2.')} | {', '.join(shown)} |"
+    return f"| {tag} | {', '.join(shown)} |"
 
 
 def files(tables):

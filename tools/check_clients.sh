@@ -22,7 +22,7 @@ usage() {
     sed -n '4s/^# */usage: /p' "$0" >&2
     exit 2
 }
-built='' chosen=() least=() until=190 again=1 slack=10 may_skip=1
+built='' chosen=() least=() until=190 again=1 may_skip=1
 while (($#)); do
     case $1 in
     --help) sed -n '2,/^# shellcheck/{/shellcheck/d;s/^# \{0,1\}//p}' "$0" && exit ;;

@@ -12,7 +12,8 @@
 #   --client NAME  this client alone (shell, c, python, rust, or openssl, the provider), or these
 #   --topic NAME   this case file alone (as words for tools/live/each/words.sh), or these
 #   --measure N    each client also makes 10 N queries and N signatures over its one connection, beside PyKMIP's own client
-#   --slack N      seconds count N times, for a machine that is busy with other things
+#   --slack N      seconds count N times, for a machine that is busy with other things: 10 where it is not given, with which
+#                  all passes on one that has four times the work that it can do at once
 #   --keep         leaves the folder of the run where it is, and says where
 #
 # It needs python3, openssl and, for a build, rt, gcc, make and cargo. What it starts it stops. How a case is added is said

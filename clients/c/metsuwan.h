@@ -146,8 +146,8 @@ int64_t kmip_contents_len(const uint8_t *head, size_t eight, uint32_t limit);
 
    A response belongs to a call by its one batch item, by its operation, and where both name an
    object, by the object's identifier. KMIP's Unique Batch Item ID would tie them closer; these
-   requests have none, so that their bytes follow from the call. So one call at a time on a
-   connection. */
+   requests have none, so that their bytes follow from the call: kmip_operation_request takes one.
+   So one call at a time on a connection. */
 int32_t kmip_answer(const uint8_t *call, size_t call_len, const uint8_t *response,
                     size_t response_len, uint8_t *into, size_t room, int64_t *length);
 
@@ -183,6 +183,9 @@ int64_t kmip_value(const uint8_t *call, size_t call_len, const uint8_t *response
 
    name, name_len           the operation's name, as Encrypt, MACVerify or Rekey
    version, version_len     the version that the request names: 1.0, 1.1 or 1.2
+   id, id_len               the Unique Batch Item ID of the request, which its response has too (KMIP
+                            1.0, 6.4): bytes that no other request on the connection has, as eight
+                            random ones; an id_len of 0: none is sent
    payload, payload_len     the request's payload, in the JSON of KMIP's Additional Message
                             Encodings: {"tag":"RequestPayload","value":[{"tag":"Data",
                             "type":"ByteString","value":"00FF"}]}
@@ -194,29 +197,34 @@ int64_t kmip_value(const uint8_t *call, size_t call_len, const uint8_t *response
                             of a Big Integer are no multiple of eight
    KMIP_LENGTH_MEMORY       out of memory */
 int64_t kmip_operation_request(const uint8_t *name, size_t name_len, const uint8_t *version,
-                               size_t version_len, const uint8_t *payload, size_t payload_len,
-                               bool has_credential, const uint8_t *user, size_t user_len,
-                               const uint8_t *password, size_t password_len, uint8_t *into,
-                               size_t room);
+                               size_t version_len, const uint8_t *id, size_t id_len,
+                               const uint8_t *payload, size_t payload_len, bool has_credential,
+                               const uint8_t *user, size_t user_len, const uint8_t *password,
+                               size_t password_len, uint8_t *into, size_t room);
 
 /* Says what a response answers to such a call, as kmip_answer does. The line is {"answer":TREE}
    with the response's payload in the same JSON, or {"error":..,"text":..,"reason":..,"message":..}
    with the server's reason and message; no unknown item or number makes a response unreadable. Whether the answer is about the
    object that the payload names is not looked at.
 
+   Where the request had an ID, a response whose batch item has another one, or none, is KMIP_LOST:
+   it is not the response to this request. A failure that names no operation and has no ID is told
+   as the failure that it is, since a server that cannot read a request knows neither of the two.
+   With an id_len of 0 the ID of a response is not looked at.
+
    name .. payload_len      the call whose request was sent, as above
    response .. length       as for kmip_answer */
 int32_t kmip_operation_answer(const uint8_t *name, size_t name_len, const uint8_t *version,
-                              size_t version_len, const uint8_t *payload, size_t payload_len,
-                              const uint8_t *response, size_t response_len, uint8_t *into,
-                              size_t room, int64_t *length);
+                              size_t version_len, const uint8_t *id, size_t id_len,
+                              const uint8_t *payload, size_t payload_len, const uint8_t *response,
+                              size_t response_len, uint8_t *into, size_t room, int64_t *length);
 
 /* Says why a name, a version and a payload make no such call, as a text in UTF-8 that is not ended
    by a zero. Of a payload it says the line and the column, the way to the place, as
    value[1].value[0].type, what was expected, and what stands there; of a string of bytes or text and
    of a Big Integer, which may be secret, only the length. Returns its length in bytes.
 
-   name .. payload_len      the call, as above
+   name .. payload_len      the call, as above, without its ID
    into, room               where the text goes; nothing is written where it does not fit
    KMIP_LENGTH_ABSENT       they make a call
    KMIP_LENGTH_MEMORY       out of memory */

@@ -39,6 +39,7 @@ struct kmip_batch {
     kmip_on_error on_error;
     item *items;
     size_t count, room;
+    uint64_t first_id;  /* that of the first call, random; the others have those that follow it */
     kmip_room response; /* the last one, .. */
     size_t response_len;
     size_t answered; /* .. and of how many calls it says something */
@@ -54,6 +55,10 @@ typedef struct {
 
 static uint32_t number_at(const uint8_t *bytes) {
     return (uint32_t)bytes[0] << 24 | (uint32_t)bytes[1] << 16 | (uint32_t)bytes[2] << 8 | bytes[3];
+}
+
+static uint64_t id_at(const uint8_t *bytes) {
+    return (uint64_t)number_at(bytes) << 32 | number_at(bytes + 4);
 }
 
 /* The item of a structure that begins here, of so many bytes to the structure's end; or what is
@@ -122,7 +127,7 @@ static void put_head(writer *it, uint32_t tag, uint8_t type, uint32_t length) {
     put(it, head, HEAD);
 }
 
-/* An item of four bytes: an integer, an enumeration, or an identifier in the batch. */
+/* An item of four bytes: an integer or an enumeration. */
 static void put_number(writer *it, uint32_t tag, uint8_t type, uint32_t number) {
     const uint8_t value[] = {(uint8_t)(number >> 24),
                              (uint8_t)(number >> 16),
@@ -133,6 +138,14 @@ static void put_number(writer *it, uint32_t tag, uint8_t type, uint32_t number) 
                              0,
                              0};
     put_head(it, tag, type, 4);
+    put(it, value, sizeof value);
+}
+
+static void put_id(writer *it, uint64_t id) {
+    uint8_t value[8];
+    for (size_t i = 0; i < sizeof value; i++)
+        value[i] = (uint8_t)(id >> (56 - 8 * i));
+    put_head(it, ITEM_ID, BYTES, sizeof value);
     put(it, value, sizeof value);
 }
 
@@ -186,13 +199,13 @@ static void put_header(writer *it, const kmip_batch *batch, const part *first) {
     end_structure(it, header);
 }
 
-/* A batch item of a request with its identifier in the batch, which stands after its operation. */
-static void put_item(writer *it, const part *batch_item, uint32_t name) {
+/* A batch item of a request with its Unique Batch Item ID, which stands after its operation. */
+static void put_item(writer *it, const part *batch_item, uint64_t id) {
     part own = {0};
     size_t made = put_structure(it, BATCH_ITEM);
     while (next_part(batch_item, &own)) {
         put(it, own.whole, own.whole_len);
-        if (own.tag == OPERATION) put_number(it, ITEM_ID, BYTES, name);
+        if (own.tag == OPERATION) put_id(it, id);
     }
     end_structure(it, made);
 }
@@ -205,7 +218,7 @@ static int64_t write_message(const kmip_batch *batch, kmip_room *into) {
     for (size_t i = 0; i < batch->count && !it.failed; i++) {
         it.failed = !parts_of(&batch->items[i], &header, &batch_item);
         if (i == 0 && !it.failed) put_header(&it, batch, &header);
-        if (!it.failed) put_item(&it, &batch_item, (uint32_t)i);
+        if (!it.failed) put_item(&it, &batch_item, batch->first_id + i);
     }
     end_structure(&it, message);
     *into = it.room;
@@ -226,7 +239,7 @@ static void put_header_of_one(writer *it, const part *header) {
     end_structure(it, made);
 }
 
-/* A batch item of a response without its identifier in the batch. */
+/* A batch item of a response without its Unique Batch Item ID. */
 static void put_item_alone(writer *it, const part *batch_item) {
     part own = {0};
     size_t made = put_structure(it, BATCH_ITEM);
@@ -265,17 +278,18 @@ static const char *wrong_with_message(const part *message) {
     return wrong;
 }
 
-/* The place of the call that a batch item of a response is of; `count`: it is of none. */
-static size_t place_of(const part *batch_item, size_t count) {
+/* The place of the call that a batch item of a response is of; the batch's count: it is of none. */
+static size_t place_of(const kmip_batch *batch, const part *batch_item) {
     part own = {0};
-    size_t place = count, names = 0;
+    size_t ids = 0;
+    uint64_t place = batch->count;
     while (batch_item->type == STRUCTURE && next_part(batch_item, &own)) {
         if (own.tag != ITEM_ID) continue;
-        bool is_number = own.type == BYTES && own.length == 4;
-        place = is_number ? number_at(own.contents) : count;
-        names++;
+        bool is_id = own.type == BYTES && own.length == 8;
+        place = is_id ? id_at(own.contents) - batch->first_id : batch->count;
+        ids++;
     }
-    return names == 1 && place < count ? place : count;
+    return ids == 1 && place < batch->count ? (size_t)place : batch->count;
 }
 
 /* Whether a batch item of a response says that its call has failed. */
@@ -288,14 +302,14 @@ static bool has_failed(const part *batch_item) {
 /* Whether the response is a failure of the whole message, as where a server takes no batches: one
    batch item, which has failed and says of no call that it is its own. */
 static bool fails_whole(const part *message, part *batch_item) {
-    part own = {0}, name;
+    part own = {0}, id;
     size_t count = 0;
     while (next_part(message, &own)) {
         if (!is_structure(&own, BATCH_ITEM)) continue;
         *batch_item = own;
         count++;
     }
-    return count == 1 && !find_part(batch_item, ITEM_ID, &name) && has_failed(batch_item);
+    return count == 1 && !find_part(batch_item, ITEM_ID, &id) && has_failed(batch_item);
 }
 
 /* Gives a call its item in the response: KMIP_ANSWERED, or what went wrong. */
@@ -335,7 +349,7 @@ static int give_each(kmip_batch *batch) {
     }
     own = (part){0};
     while (status == KMIP_ANSWERED && next_part(&message, &own))
-        if (own.tag == BATCH_ITEM) status = give(batch, place_of(&own, batch->count), &own);
+        if (own.tag == BATCH_ITEM) status = give(batch, place_of(batch, &own), &own);
     return status == KMIP_ANSWERED ? check_missing(batch) : status;
 }
 
@@ -405,6 +419,14 @@ static bool is_changeless(const kmip_batch *batch) {
     return changeless;
 }
 
+/* Chooses the Unique Batch Item IDs, which no answer to another batch has. */
+static int choose_ids(kmip_batch *batch) {
+    uint8_t id[8] = {0};
+    int status = kmip_choose_item_id(batch->client, id);
+    batch->first_id = id_at(id);
+    return status;
+}
+
 static int send_batch(kmip_batch *batch) {
     kmip_client *client = batch->client;
     char said[50];
@@ -412,6 +434,8 @@ static int send_batch(kmip_batch *batch) {
     if (status != KMIP_ANSWERED) return status;
     if (batch->count == 0)
         return kmip_fails_as(client, KMIP_CALL_GRAMMAR, "GrammarError", "the batch has no calls");
+    status = choose_ids(batch);
+    if (status != KMIP_ANSWERED) return status;
     int64_t length = write_message(batch, &client->request);
     if (length == KMIP_LENGTH_NO_FORM)
         return kmip_fails_as(client, KMIP_REFUSED, "SerializeError", "request has no wire form");

@@ -43,10 +43,15 @@ struct kmip_client {
     char reason[300]; /* .. and why */
     kmip_room call, request, response, line, value, pem;
     size_t request_len, response_len;
-    /* of any operation, while its call is made; else null pointers */
+    /* of any operation, while its call is made; else null pointers, .. */
     const char *name, *version, *payload;
+    /* .. and its Unique Batch Item ID, of no bytes in a batch, which has its own */
+    uint8_t item_id[8];
+    size_t item_id_len;
     kmip_log *log;
     void *log_data;
+    kmip_record *record;
+    void *record_data;
     const char *operation; /* that of the last call, for the log, .. */
     double begun;          /* .. and when it began */
 };
@@ -60,6 +65,10 @@ HIDDEN int kmip_make_call(kmip_client *client, const char *call, const char *con
                           size_t *length);
 HIDDEN int kmip_make_operation(kmip_client *client, const char *name, const char *version,
                                const char *payload, size_t *length);
+
+/* Chooses a Unique Batch Item ID, which no answer to another call has: KMIP_ANSWERED, or the status
+   of what went wrong. */
+HIDDEN int kmip_choose_item_id(kmip_client *client, uint8_t into[8]);
 
 /* Whether a call of this name changes nothing, so that it may be made twice. */
 HIDDEN bool kmip_is_changeless(const char *operation);
@@ -78,6 +87,10 @@ HIDDEN int32_t kmip_line_of_operation(kmip_client *client, const char *name);
 
 /* Tells the log what came of a call, which is called so. */
 HIDDEN void kmip_tell_call(kmip_client *client, const char *call);
+
+/* Tells the record of the request, in which the credential and the ID of an operation are not left,
+   and the response; false where memory ran out. */
+HIDDEN bool kmip_tell_record(kmip_client *client);
 
 /* Keeps what came of a call. After a status that loses the connection it is closed. */
 HIDDEN int kmip_ends_as(kmip_client *client, int status);
@@ -112,6 +125,10 @@ HIDDEN struct ssl_ctx_st *kmip_wire_context(const kmip_wire *wire);
 
 /* The time in seconds. Without a clock each deadline is over. */
 HIDDEN double kmip_now(void);
+
+/* Writes so many random bytes of the system's, at most 256; or a reason why there are none, and is
+   false. */
+HIDDEN bool kmip_random(uint8_t *into, size_t count, char *reason, size_t room);
 
 /* Ends the connection, and waits for nothing. A null pointer is fine. */
 HIDDEN void kmip_wire_close(kmip_wire *wire);

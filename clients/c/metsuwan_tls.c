@@ -32,7 +32,8 @@ static bool is_port(const char *port) {
    where they are neither. */
 static bool read_settings(const kmip_settings *given, kmip_settings *into) {
     static const size_t sizes[] = {offsetof(kmip_settings, library),
-                                   offsetof(kmip_settings, reconnect), sizeof *into};
+                                   offsetof(kmip_settings, reconnect),
+                                   offsetof(kmip_settings, record), sizeof *into};
     size_t size;
     memcpy(&size, given, sizeof size);
     *into = kmip_defaults();
@@ -62,6 +63,8 @@ static const char *wrong_identity(const kmip_settings *settings) {
 static const char *wrong_setting(const kmip_settings *settings) {
     const char *wrong = wrong_identity(settings);
     if (!settings->host || !*settings->host) return "host is not given";
+    /* OpenSSL takes it for any name below it. */
+    if (*settings->host == '.') return "host begins with a dot, and is none";
     if (!settings->port || !*settings->port) return "port is not given";
     if (!is_port(settings->port)) return "port is no number of 1 to 65535, and no name";
     if (wrong) return wrong;
@@ -98,6 +101,8 @@ static kmip_client *client_of(const kmip_settings *settings) {
     client->owner = getpid();
     client->log = settings->log;
     client->log_data = settings->log_data;
+    client->record = settings->record;
+    client->record_data = settings->record_data;
     client->host = kmip_copy_of(settings->host);
     client->port = kmip_copy_of(settings->port);
     if (settings->user) {
@@ -266,6 +271,7 @@ static int64_t make_request(kmip_client *client) {
             client->name
                 ? kmip_operation_request(bytes_of(client->name), strlen(client->name),
                                          bytes_of(client->version), strlen(client->version),
+                                         client->item_id, client->item_id_len,
                                          bytes_of(client->payload), strlen(client->payload), has,
                                          user, user_len, password, password_len, into, room)
                 : kmip_request(call, call_len, has, user, user_len, password, password_len, into,
@@ -292,6 +298,7 @@ static int32_t line_of(kmip_client *client) {
             client->name
                 ? kmip_operation_answer(bytes_of(client->name), strlen(client->name),
                                         bytes_of(client->version), strlen(client->version),
+                                        client->item_id, client->item_id_len,
                                         bytes_of(client->payload), strlen(client->payload),
                                         response, client->response_len, into, room, &length)
                 : kmip_answer(client->call.bytes, call_len, response, client->response_len, into,
@@ -431,10 +438,8 @@ static int ready(kmip_client *client) {
     return KMIP_ANSWERED;
 }
 
-int kmip_exchange(kmip_client *client, size_t request_len, bool is_changeless) {
+static int exchange_again(kmip_client *client, size_t request_len, bool is_changeless) {
     bool was_open = client->wire != NULL;
-    client->torn = false;
-    client->request_len = request_len;
     int status = ready(client);
     if (status == KMIP_ANSWERED) status = exchange(client, request_len);
     /* Where the connection is new, or what was sent may have been done, that is all. */
@@ -443,6 +448,14 @@ int kmip_exchange(kmip_client *client, size_t request_len, bool is_changeless) {
     tell(client, KMIP_EVENT_REPEATED, KMIP_LOST, "%s: the call is made again", client->reason);
     status = ready(client);
     return status == KMIP_ANSWERED ? exchange(client, request_len) : status;
+}
+
+int kmip_exchange(kmip_client *client, size_t request_len, bool is_changeless) {
+    client->torn = false;
+    client->request_len = request_len;
+    int status = exchange_again(client, request_len, is_changeless);
+    if (status == KMIP_ANSWERED && !kmip_tell_record(client)) return kmip_out_of_memory(client);
+    return status;
 }
 
 int kmip_begin(kmip_client *client, const char *operation) {
@@ -555,14 +568,25 @@ int kmip_make_operation(kmip_client *client, const char *name, const char *versi
     return made_request(client, made, length);
 }
 
+int kmip_choose_item_id(kmip_client *client, uint8_t into[8]) {
+    char reason[160], text[300];
+    if (kmip_random(into, 8, reason, sizeof reason)) return KMIP_ANSWERED;
+    snprintf(text, sizeof text,
+             "no random bytes for the Unique Batch Item ID: %s; nothing was sent", reason);
+    return kmip_fails_as(client, KMIP_LOST, "RequestWriteError", text);
+}
+
 static int operation(kmip_client *client, const char *name, const char *version,
                      const char *payload) {
     size_t length = 0;
     int status = kmip_begin(client, name);
+    if (status == KMIP_ANSWERED) status = kmip_choose_item_id(client, client->item_id);
+    if (status == KMIP_ANSWERED) client->item_id_len = sizeof client->item_id;
     if (status == KMIP_ANSWERED)
         status = kmip_make_operation(client, name, version, payload, &length);
     if (status == KMIP_ANSWERED) status = exchange_of(client, length);
     client->name = client->version = client->payload = NULL;
+    client->item_id_len = 0;
     return status;
 }
 

@@ -67,9 +67,21 @@ typedef struct {
 /* A log. It is called within a call of a client, which it may not use. */
 typedef void kmip_log(void *data, const kmip_event *event);
 
+/* A record. It is told of each exchange whose whole response came, also of an operation and of a
+   batch, one line that ends with a line feed and, after `length` bytes, a byte 0:
+
+       raw REQUEST RESPONSE          both in hex, the request without its credential and, of an
+                                     operation, its Unique Batch Item ID: kmip_run replay
+                                     (docs/PROGRAM.md) answers the line again
+       message REQUEST RESPONSE      kmip_run has no such call, as Encrypt, or a batch
+
+   Keys stand in it where they were sent or given. It is called within a call of a client, which it
+   may not use; what it cannot write is its own to tell. */
+typedef void kmip_record(void *data, const char *line, size_t length);
+
 /* What opens a connection. Begin with kmip_defaults; host and port are needed, and certificate, key
-   and authority, or context in place of the three. Nothing of it is looked at after kmip_open; log_data is
-   given to the log until kmip_close.
+   and authority, or context in place of the three. Nothing of it is looked at after kmip_open; log_data and
+   record_data are given to the log and the record until kmip_close.
 
    size           of this structure; kmip_defaults sets it, and by it a program that was compiled
                   with an older version of this header, and so without the last members, runs too
@@ -96,7 +108,9 @@ typedef void kmip_log(void *data, const kmip_event *event);
                   it changes nothing (query, discover, locate, get, attributes, sign; Encrypt,
                   Decrypt, MAC, SignatureVerify and the like; a batch of these), and not where its
                   time was over. The log is told
-   log, log_data  what is told of each call, and what it is given; null: nobody */
+   log, log_data  what is told of each call, and what it is given; null: nobody
+   record,        what is told of each exchange, and what it is given; null: nobody
+   record_data */
 typedef struct {
     size_t size;
     const char *host, *port;
@@ -110,6 +124,8 @@ typedef struct {
     bool reconnect;
     kmip_log *log;
     void *log_data;
+    kmip_record *record;
+    void *record_data;
 } kmip_settings;
 
 /* What settings begin with: a limit of 1048576 bytes, 30 seconds, and nothing else. */
@@ -128,6 +144,8 @@ static inline kmip_settings kmip_defaults(void) {
                               NULL,
                               NULL,
                               false,
+                              NULL,
+                              NULL,
                               NULL,
                               NULL};
     return settings;
@@ -186,7 +204,11 @@ int kmip_call_array(kmip_client *client, const char *call, const char *const *wo
 
    The answer is the line, {"answer":ITEM}, with the response's payload. kmip_text and kmip_bytes
    have its values, and kmip_pem that of Get. Whether it is about the object that was asked about is
-   the caller's to look at. A payload with an empty UniqueIdentifier is KMIP_CALL_GRAMMAR. */
+   the caller's to look at. A payload with an empty UniqueIdentifier is KMIP_CALL_GRAMMAR.
+
+   The request has eight random bytes as its Unique Batch Item ID. A response with another one, or
+   with none, is KMIP_LOST, KMIP_KIND_OTHER_ANSWER: it is that of another call. Where the system has
+   no random bytes nothing is sent: KMIP_LOST, KMIP_KIND_WRITE. */
 int kmip_operation(kmip_client *client, const char *name, const char *version, const char *payload);
 
 /* Has the server keep an X.509 certificate, and returns the status, as kmip_operation does:
@@ -263,7 +285,11 @@ size_t kmip_batch_count(const kmip_batch *batch);
 /* Makes the calls. KMIP_ANSWERED: a response came, and kmip_batch_answer has what it says to each of
    them. KMIP_CALL_GRAMMAR: there are no calls. KMIP_LOST: the connection is lost, or the response is
    none to this batch: an item of it is of no call, or a call has two, or none where no call before
-   it failed; of no call it is known whether it was done. */
+   it failed; of no call it is known whether it was done.
+
+   The Unique Batch Item IDs are numbers of eight bytes that follow each other, and the first is
+   random: so the answer to another batch is of no call of this one. Without random bytes it ends as
+   kmip_operation does. */
 int kmip_batch_send(kmip_batch *batch);
 
 /* Has the answer to the call at this place, from 0, be the last one: its status is returned, as that

@@ -22,6 +22,7 @@
 #include <stdio.h>
 #include <stdlib.h>
 #include <string.h>
+#include <sys/random.h>
 #include <sys/socket.h>
 #include <sys/types.h>
 #include <time.h>
@@ -73,11 +74,27 @@ static const char *text_itself(const char *given, const char *text) {
     return given;
 }
 
+/* What the system says of an error: in this room, or elsewhere. */
+static const char *said_of(int error, char *text, size_t room) {
+#define SAID(given) _Generic((given), int : text_by_status, char * : text_itself)((given), text)
+    return SAID(strerror_r(error, text, room));
+#undef SAID
+}
+
 static bool fails_by_errno(kmip_wire *wire, const char *what, int error) {
     char text[160] = "";
-#define SAID(given) _Generic((given), int : text_by_status, char * : text_itself)((given), text)
-    return fails(wire, "%s%s", what, SAID(strerror_r(error, text, sizeof text)));
-#undef SAID
+    return fails(wire, "%s%s", what, said_of(error, text, sizeof text));
+}
+
+bool kmip_random(uint8_t *into, size_t count, char *reason, size_t room) {
+    char text[160] = "";
+    ssize_t got;
+    do
+        got = getrandom(into, count, 0);
+    while (got < 0 && errno == EINTR);
+    if (got >= 0 && (size_t)got == count) return true;
+    snprintf(reason, room, "%s", got < 0 ? said_of(errno, text, sizeof text) : "they are too few");
+    return false;
 }
 
 static bool runs_late(kmip_wire *wire) {

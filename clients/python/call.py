@@ -19,7 +19,7 @@ error.
 import json
 import os
 import sys
-from typing import List
+from typing import Callable, Dict, List
 
 from metsuwan import Client, GrammarError, KmipError
 from metsuwan.calls import words_of
@@ -45,10 +45,11 @@ def client_of(settings: List[str]) -> Client:
         raise GrammarError(str(error)) from error
 
 
-REGISTERS = {'register-private': Client.register_private_key,
-             'register-public': Client.register_public_key,
-             'register-certificate': Client.register_certificate,
-             'register-secret': Client.register_secret}
+REGISTERS: Dict[str, Callable[..., str]] = {
+    'register-private': Client.register_private_key,
+    'register-public': Client.register_public_key,
+    'register-certificate': Client.register_certificate,
+    'register-secret': Client.register_secret}
 
 
 def registered(settings: List[str], name: str, texts: List[str]) -> str:
@@ -71,7 +72,7 @@ def answer_of(settings: List[str], name: str, texts: List[str]) -> str:
         return registered(settings, name, texts)
     if name == 'pem':
         with client_of(settings) as kmip:
-            return kmip.get(*words_of('get', texts)[0]).pem()
+            return kmip.get(*map(str, words_of('get', texts)[0])).pem()
     words, options = words_of(name, texts)
     with client_of(settings) as kmip:
         if name == 'get' and os.environ.get('KMIP_PEM'):

@@ -1,7 +1,8 @@
 """A wheel of this package holds the built library, and so is for one kind of machine, with a C
 library that is as new as the library wants it.
 
-    LIBMETSUWAN=FOLDER/libmetsuwan.so pip wheel clients/python     # or: python3 -m build clients/python
+    LIBMETSUWAN=FOLDER/libmetsuwan.so pip wheel clients/python
+    LIBMETSUWAN=FOLDER/libmetsuwan.so python3 -m build clients/python
 
 FOLDER is one that clients/build.sh made. Where its library is not known to be proved, the version
 of the wheel says so, as 1.0+not.proved.

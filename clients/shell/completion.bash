@@ -102,13 +102,19 @@ _kmip_offer_options() { # CALL WORD.. TYPED
     _kmip_offer "$typed" ${left[@]+"${left[@]}"}
 }
 
-# What may follow a call: after `operation` a name, and then a version; after `locate` the word `where`; and the names that a
+# What may follow a call: after `operation` a name, and then a version and an ID; after `locate` the word `where`; and the names that a
 # word may be, the options, and what their values may be.
 _kmip_follow() { # CALL WORD.. TYPED
     COMPREPLY=()
     case $1.$# in
     operation.2) _kmip_offer "$2" "${_kmip_operations[@]}" ;;
-    operation.3) _kmip_offer "$3" version= ;;
+    operation.3) _kmip_offer "$3" version= item-id= ;;
+    operation.4)
+        case $3 in
+        version=*) _kmip_offer "$4" item-id= ;;
+        item-id=*) _kmip_offer "$4" version= ;;
+        esac
+        ;;
     locate.2) _kmip_offer "$2" where ;;
     *)
         if [[ -n ${_kmip_kinds[$1.$(($# - 1))]-} ]]; then

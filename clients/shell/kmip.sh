@@ -27,7 +27,9 @@
 # openssl wrote, with `name=..` and `usage=..`; a secret, any bytes, also with `kind=Seed`.
 #
 # `kmip operation Encrypt '{"tag":"RequestPayload","value":[..]}'` is any operation of KMIP, and `@payload.json` in the place
-# of the payload a file that has it. `version=1.1` stands before the payload, where the request is not to be of KMIP 1.2.
+# of the payload a file that has it. `version=1.1` stands before the payload, where the request is not to be of KMIP 1.2. The
+# request has eight random bytes as its Unique Batch Item ID, and an answer with another one or with none is that of another
+# call (status 3); `item-id=0102`, also before the payload, is another one.
 # `kmip message @message.json` sends a whole message as it stands, and answers the whole response. In the place of hex
 # `@data.bin` is a file that has the bytes; `@3` is descriptor 3, up to its end. Payloads, messages and the keys of `register`
 # are in no word of a process.
@@ -41,7 +43,7 @@
 #   KMIP_RECORD      a file that each call and its response are added to
 #   KMIP_CALL        the program, if it is not kmip_call on the path: its path, or words
 #
-# It needs bash 5.0, openssl 3.0, flock (util-linux), timeout and mkfifo (coreutils), jq for kmip_field and `kmip pem`, and /proc.
+# It needs bash 5.0, openssl 3.0, flock (util-linux), timeout, mkfifo and od (coreutils), jq for kmip_field and `kmip pem`, and /proc.
 
 if ((BASH_VERSINFO[0] < 5)); then
     echo 'kmip.sh: bash 5.0 or later is needed' >&2
@@ -148,6 +150,21 @@ kmip_json_words() { # CALL WORD..
     KMIP_WORDS[$# - 1]=@3
 }
 
+# Adds a Unique Batch Item ID to the words of an operation, behind its name, where they have none: eight random bytes, which
+# no answer to another call has. Where the system has none, KMIP_LACKS says so.
+kmip_item_id() {
+    local word id
+    # (fewer words are no operation, and the last one is its payload)
+    ((${#KMIP_WORDS[@]} > 2)) || return 0
+    for word in "${KMIP_WORDS[@]:2:${#KMIP_WORDS[@]}-3}"; do
+        if [[ $word == item-id=* ]]; then return 0; fi
+    done
+    id=$(od -An -N8 -tx1 /dev/urandom) || id=''
+    id=${id//[!0-9a-f]/}
+    ((${#id} == 16)) || KMIP_LACKS='no random bytes for the Unique Batch Item ID: od reads none in /dev/urandom'
+    KMIP_WORDS=("${KMIP_WORDS[@]:0:2}" "item-id=$id" "${KMIP_WORDS[@]:2}")
+}
+
 # The same for bytes in hex, which stand behind so many words: kmip_call reads @FILE, or gets them by a descriptor where they
 # may be those of a key. What is no hex is not shown, since it may be a key's all the same, and is no hex by another word.
 kmip_bytes_word() { # PLACE CALL WORD..
@@ -188,7 +205,12 @@ kmip_fit() { # WORD..
 kmip_words() { # CALL WORD..
     local word KMIP_WORD KMIP_OPTIONS KMIP_PLAIN
     case ${1-} in
-    operation | message)
+    operation)
+        kmip_json_words "$@"
+        kmip_item_id
+        return
+        ;;
+    message)
         kmip_json_words "$@"
         return
         ;;
@@ -258,7 +280,7 @@ kmip_client_words() { # HOST:PORT CERTIFICATE KEY AUTHORITY
     local host=${1%:*}
     host=${host#[} host=${host%]} host=${host%.}
     KMIP_WORDS=(s_client -quiet -verify_quiet -no_ign_eof -nocommands -connect "$1" -verify_return_error
-        -cert "$2" -key "$3" -CAfile "$4" -no-CApath -no-CAstore -partial_chain)
+        -cert "$2" -key "$3" -CAfile "$4" -no-CApath -no-CAstore -partial_chain -no_renegotiation)
     if [[ $host =~ ^[0-9.]+$ || $host == *:* ]]; then
         KMIP_WORDS+=(-verify_ip "$host" -noservername)
     else
@@ -293,6 +315,11 @@ kmip_is_port() { # PORT
 kmip_open() { # HOST:PORT CERTIFICATE KEY AUTHORITY
     if (($# != 4)) || [[ $1 != ?*:?* ]]; then
         echo 'usage: kmip_open HOST:PORT CERTIFICATE KEY AUTHORITY' >&2
+        return 2
+    fi
+    if [[ $1 == .* ]]; then
+        # openssl would take it for any name below it.
+        printf 'kmip_open: %s is no host\n' "${1%:*}" >&2
         return 2
     fi
     if ! kmip_is_port "${1##*:}"; then
@@ -421,6 +448,10 @@ kmip_make() { # WORD..
         kmip_lose RequestWriteError 'there is no connection; nothing was sent; kmip_open opens a new one'
         return
     fi
+    if [[ -n $KMIP_LACKS ]]; then
+        kmip_lose RequestWriteError "$KMIP_LACKS; nothing was sent"
+        return
+    fi
     if read -r -t 0 -u "$KMIP_IN"; then
         kmip_lose RequestWriteError \
             'the connection ended, or bytes came that no call had asked for; nothing was sent; kmip_open opens a new one'
@@ -468,7 +499,7 @@ kmip_not_pem() { # WORD..
 
 # The same for a call of kmip_call.
 kmip_once() { # CALL WORD..
-    local words=() status=0 KMIP_WORDS KMIP_DEADLINE KMIP_GIVEN='' KMIP_GIVES=''
+    local words=() status=0 KMIP_WORDS KMIP_DEADLINE KMIP_GIVEN='' KMIP_GIVES='' KMIP_LACKS=''
     if [[ ! -e /proc/self/fd/1 ]]; then
         echo 'kmip: standard output is closed; nothing was sent' >&2
         return 4
@@ -546,16 +577,36 @@ kmip_tree() { # CALL IDENTIFIER WORD..
     return $status
 }
 
+# Leaves in KMIP_FIELD the program of jq that finds a field. Its status is 8 where what it finds is another, were the numbers
+# others that jq would round, and 9 where it finds nothing. No field ends jq without a word, as by `halt`.
+kmip_field_program() { # FIELD
+    KMIP_FIELD="def give_up(\$status): \"\" | halt_error(\$status);
+        def halt: error(\"halt is no field\"); def halt_error: halt; def halt_error(status): halt;
+        def is_rounded: type == \"number\" and (. >= 9007199254740992 or . <= -9007199254740992);
+        def found: [.answer.$1];
+        found as \$found | if any(..; is_rounded) and \$found != (try (walk(if is_rounded then 0 else . end) | found) catch 0)
+        then give_up(8) elif all(\$found[]; . == null) then give_up(9) else \$found[] end"
+}
+
+# Whether the answer to a call names what it has made, and has nothing that is secret.
+kmip_makes() { # CALL WORD..
+    case $1.${2-} in
+    create.* | create-rsa.* | create-aes.* | register.* | register-*.*) return 0 ;;
+    operation.Create | operation.CreateKeyPair | operation.Register | operation.DeriveKey) return 0 ;;
+    operation.Certify | operation.Recertify | operation.Rekey | operation.RekeyKeyPair) return 0 ;;
+    *) return 1 ;;
+    esac
+}
+
 # Makes a call, and writes one field of its answer, as unique_identifier or operations[0]. An error goes to standard error.
-# A field that is false is one; one that is null is none, and so is a number that jq would round. What is said of an answer
-# shows nothing of it, since that may be a key; but the identifiers of what a call has made are not lost. The field is read
-# before the call is made.
+# A field that is false is one; one that is null is none, and so is what would be another without the rounding of jq. What is
+# said of an answer shows nothing of it, since that may be a key; but the identifiers of what a call has made are not lost. The
+# field is read before the call is made.
 kmip_field() { # FIELD CALL WORD..
-    local field=${1-} answer program status=0
-    program="[.answer.$field] | if any(..; type == \"number\" and (. >= 9007199254740992 or . <= -9007199254740992))
-        then (\"\" | halt_error(8)) elif all(. == null) then (\"\" | halt_error(9)) else .[] end"
+    local field=${1-} answer status=0 KMIP_FIELD
+    kmip_field_program "$field"
     kmip_has_jq || return
-    if ! jq "$program" </dev/null >/dev/null; then
+    if ! jq "$KMIP_FIELD" </dev/null >/dev/null; then
         kmip_fails GrammarError 'jq does not read the field, for the reason before; nothing was sent' >&2
         return 2
     fi
@@ -564,7 +615,7 @@ kmip_field() { # FIELD CALL WORD..
         printf '%s\n' "$answer" >&2
         return $status
     fi
-    jq -r "$program" < <(printf '%s\n' "$answer") || status=$?
+    jq -r "$KMIP_FIELD" < <(printf '%s\n' "$answer") || status=$?
     case $status in
     0) return 0 ;;
     8) kmip_fails MissingValue 'the field has a number that jq cannot keep, 2^53 or past it; kmip shows it' >&2 ;;
@@ -572,9 +623,7 @@ kmip_field() { # FIELD CALL WORD..
     3 | 5) kmip_fails MissingValue 'jq does not find the field, for the reason before' >&2 ;;
     *) kmip_not_written 'the field cannot be written' || status=4 ;;
     esac
-    case ${2-} in
-    create | create-rsa | create-aes | register) printf '%s\n' "$answer" >&2 ;;
-    esac
+    if kmip_makes "${@:2}"; then printf '%s\n' "$answer" >&2; fi
     return $((status == 4 ? 4 : 1))
 }
 

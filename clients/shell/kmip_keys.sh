@@ -45,6 +45,8 @@ kmip_read_object() { # KIND FILE
     case $1 in
     private | public) kmip_read_key "$1" "$2" ;;
     certificate)
+        KMIP_WORDS=('the file cannot be read')
+        [[ -r $2 && ! -d $2 ]] || return
         KMIP_WORDS=('the certificate is none of X.509, or several')
         count=$(grep -c -e '^-----BEGIN ' -- "$2" 2>/dev/null) || count=0
         ((count < 2)) || return

@@ -87,6 +87,9 @@ def all_pairs(certs: str) -> Dict[str, Tuple[bytes, bytes]]:
                                message='why "not"?\n')
         pairs['failed.' + name] = (call, failed)
         pairs['raw.' + name] = (b'raw ' + request.hex().encode(), pairs[name][1])
+    for name in ('sign', 'failed.activate', 'get.Certificate.X509'):
+        call, answer = pairs[name]
+        pairs['identified.' + name] = (call, ttlv.identified(answer, trees.ID))
     key = pairs['sign'][1]
     pairs['other_object'] = (b'sign mine 00', key)
     pairs['reason'] = (b'activate 1', ttlv.response(0x12, None, status=ttlv.FAILED, reason=0x7FFF,
@@ -104,6 +107,9 @@ def operation_of(library: Library, call: bytes) -> Operation:
     made = Operation(NAMES[ttlv.operation_of(request)].encode(), b'1.%d' % minor, payload.encode())
     if library.request(made) != request:
         trees.found('another request', call, made, request.hex())
+    named = library.request(made._replace(item_id=trees.ID))
+    if not isinstance(named, bytes) or ttlv.id_of(named) != trees.ID:
+        trees.found('another request with an ID', call, made, named)
     return made
 
 

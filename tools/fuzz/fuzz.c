@@ -4,7 +4,8 @@
 
    CORPUS has calls and responses, as NAME.call and NAME.response, and each call as any operation:
    NAME.operation is its name, its version and its payload in JSON, on three lines. They and
-   mutations of them are the input of the six calls. Each line of an answer is written to LINES with
+   mutations of them are the input of the calls, any operation with no ID, with that of some of the
+   responses, or with another. Each line of an answer is written to LINES with
    its status in front. What is checked: the results are among those of the header; nothing is
    written where it does not fit, and nothing past the length that is told; the same input gives the
    same output; a request is one message; kmip_contents_len is as its definition says. What is read
@@ -29,11 +30,15 @@ typedef struct {
     size_t length;
 } blob;
 
-/* A call: a line of words, or any operation's name, version and payload. */
+/* A call: a line of words, or any operation's name, version, payload and Unique Batch Item ID. */
+enum { PARTS = 4 };
 typedef struct {
-    blob parts[3];
+    blob parts[PARTS];
     bool any;
 } asked;
+
+/* The ID that responses of the corpus have, where they have one. */
+static const uint8_t known_id[] = {1, 2, 3, 4, 5, 6, 7, 8};
 
 static blob calls[MOST_FILES], responses[MOST_FILES];
 static asked operations[MOST_FILES];
@@ -97,12 +102,13 @@ static asked operation_in(blob file) {
     asked it = {.any = true};
     for (int i = 0; i < 3; i++)
         it.parts[i] = line_of(file, &at);
+    it.parts[3] = copy_of(NULL, 0);
     free(file.bytes);
     return it;
 }
 
 static void let_go(asked it) {
-    for (int i = 0; i < (it.any ? 3 : 1); i++)
+    for (int i = 0; i < (it.any ? PARTS : 1); i++)
         free(it.parts[i].bytes);
 }
 
@@ -432,6 +438,14 @@ static blob a_payload(blob own) {
     }
 }
 
+static blob an_id(void) {
+    switch (below(4)) {
+    case 0: return random_bytes(20);
+    case 1: return copy_of(known_id, sizeof known_id);
+    default: return copy_of(NULL, 0);
+    }
+}
+
 static asked any_operation(size_t file) {
     static const char *const names[] = {"Encrypt", "Decrypt",    "MACVerify", "Rekey",
                                         "encrypt", "Encrypt ",   "",          "Query",
@@ -444,6 +458,7 @@ static asked any_operation(size_t file) {
     it.parts[0] = a_text(names, sizeof names / sizeof *names, own[0]);
     it.parts[1] = a_text(versions, sizeof versions / sizeof *versions, own[1]);
     it.parts[2] = a_payload(own[2]);
+    it.parts[3] = an_id();
     return it;
 }
 
@@ -473,8 +488,9 @@ static int64_t request_of(asked it, bool has, blob user, blob password, uint8_t 
         return kmip_request(part->bytes, part->length, has, user.bytes, user.length, password.bytes,
                             password.length, into, room);
     return kmip_operation_request(part[0].bytes, part[0].length, part[1].bytes, part[1].length,
-                                  part[2].bytes, part[2].length, has, user.bytes, user.length,
-                                  password.bytes, password.length, into, room);
+                                  part[3].bytes, part[3].length, part[2].bytes, part[2].length, has,
+                                  user.bytes, user.length, password.bytes, password.length, into,
+                                  room);
 }
 
 static int32_t answer_of(asked it, blob response, uint8_t *into, size_t room, int64_t *length) {
@@ -483,8 +499,8 @@ static int32_t answer_of(asked it, blob response, uint8_t *into, size_t room, in
         return kmip_answer(part->bytes, part->length, response.bytes, response.length, into, room,
                            length);
     return kmip_operation_answer(part[0].bytes, part[0].length, part[1].bytes, part[1].length,
-                                 part[2].bytes, part[2].length, response.bytes, response.length,
-                                 into, room, length);
+                                 part[3].bytes, part[3].length, part[2].bytes, part[2].length,
+                                 response.bytes, response.length, into, room, length);
 }
 
 static void check_request(asked call) {

@@ -8,9 +8,10 @@
 
 What is checked of a line: it is one line of strict JSON in UTF-8, without a name twice, with the
 members that its status wants. What is checked of the library: kmip_value at each path of an answer
-gives what the JSON has there, and nothing at paths that it has not; and the answer to any operation
-is the payload of the response: as the payload of a request it gives the same bytes. LIBMETSUWAN is
-the library.
+gives what the JSON has there, and nothing at paths that it has not; the answer to any operation
+is the payload of the response: as the payload of a request it gives the same bytes; and with a
+Unique Batch Item ID the answer is the same, but where the response is to another item. LIBMETSUWAN
+is the library.
 """
 import collections
 import ctypes
@@ -35,7 +36,7 @@ LOSSES = ('DeserializeError', 'ResponseReadError', 'InternalError', 'ServerError
 TAGS = [0x420008, 0x420009, 0x42000A, 0x42000B, 0x42000D, 0x42000F, 0x420028, 0x42002A, 0x420040,
         0x420042, 0x420043, 0x420045, 0x420054, 0x420055, 0x420057, 0x42005C, 0x420066, 0x42006F,
         0x420069, 0x42006A, 0x42006B, 0x42007C, 0x42007D, 0x42007E, 0x42007F, 0x420092, 0x420094,
-        0x42009D, 0x4200C2, 0x4200C3, 0x540001, 0, 0xFFFFFF]
+        0x420093, 0x42009D, 0x4200C2, 0x4200C3, 0x540001, 0, 0xFFFFFF]
 TEXTS = ['', '"', '\\', '\n\r\t\b\f', '\0', '\x7f', '\xe9', '\u2028\u2029', '\ufeff', '\U0001f600',
          '\ufffe\uffff', 'x' * 1000, '</script>', '\x01' * 7, 'a' * 8, 'a' * 9]
 NUMBERS = [0, 1, 2, 3, 4, 5, 6, 8, 10, 18, 0x21, 0x25, 0xFF, 0x100, 1 << 31, (1 << 31) - 1,
@@ -43,7 +44,10 @@ NUMBERS = [0, 1, 2, 3, 4, 5, 6, 8, 10, 18, 0x21, 0x25, 0xFF, 0x100, 1 << 31, (1 
 LARGE = [0, 1, (1 << 53) + 1, (1 << 63) - 1, 1 << 63, (1 << 64) - 1, 1700000000]
 WIDTHS = {2: 4, 5: 4, 10: 4, 3: 8, 6: 8, 9: 8}
 REQUEST, RESPONSE = 0x420079, 0x42007C          # the tags of payloads
-BATCH_ITEM = 0x42000F
+BATCH_ITEM, BATCH_COUNT, ITEM_ID, OPERATION = 0x42000F, 0x42000D, 0x420093, 0x42005C
+RESPONSE_MESSAGE, RESPONSE_HEADER, STATUS = 0x42007B, 0x42007A, 0x42007F
+ID = bytes(range(1, 9))                         # that of some responses of the corpus
+OTHER = "Response does not have the request's Unique Batch Item ID"
 
 
 def found(*what: object) -> None:
@@ -282,6 +286,38 @@ def check_payload(library: Library, asked: Operation, answer: Any, tree: List[It
         found('another payload', again, request.hex(), written(tree).hex())
 
 
+def sole(tag: int, items: Any) -> Optional[Item]:
+    """The one item with this tag of these, where there is one."""
+    found_ones = [it for it in items if it[0] == tag] if isinstance(items, list) else []
+    return found_ones[0] if len(found_ones) == 1 else None
+
+
+def is_of_other_item(tree: List[Item]) -> bool:
+    """Whether a response has one batch item, which is not that of the request with the ID."""
+    message = tree[0] if tree and tree[0][0] == RESPONSE_MESSAGE else [0, 1, []]
+    count = sole(BATCH_COUNT, (sole(RESPONSE_HEADER, message[2]) or [0, 1, []])[2])
+    item = sole(BATCH_ITEM, message[2])
+    if item is None or count is None or count[1:] != [2, b'\0\0\0\1']:
+        return False
+    tags = [it[0] for it in item[2]] if isinstance(item[2], list) else []
+    if ITEM_ID in tags:
+        return sole(ITEM_ID, item[2]) != [ITEM_ID, 8, ID]
+    return OPERATION in tags or sole(STATUS, item[2]) != [STATUS, 5, b'\0\0\0\1']
+
+
+def check_identified(asked: Operation, tree: List[Item], plain: Tuple[int, str],
+                     identified: Tuple[int, str]) -> None:
+    """That the answer to an operation with the ID is that of the same without one, or lost."""
+    known = json.loads(plain[1])
+    is_read = known.get('error') not in ('DeserializeError', 'ResponseReadError')
+    if not is_read or not is_of_other_item(tree):
+        if identified != plain:
+            found('another answer with an ID', asked, written(tree).hex(), plain, identified)
+    # (A failure of another operation is lost with and without.)
+    elif identified[0] != 3 or identified != plain and json.loads(identified[1])['text'] != OTHER:
+        found('an answer to another item', asked, written(tree).hex(), identified)
+
+
 def try_tree(library: Library, values: Values, call: bytes, asked: Operation,
              tree: List[Item]) -> Iterator[Tuple[str, int]]:
     """The statuses of a response to a call of words, and to one of any operation."""
@@ -298,6 +334,10 @@ def try_tree(library: Library, values: Values, call: bytes, asked: Operation,
     it = check_line(status, line.encode('utf-8'))
     if status == 0:
         check_payload(library, asked, it['answer'], tree)
+    identified = library.answer(asked._replace(item_id=ID), response)
+    yield 'identified', identified[0]
+    check_line(identified[0], identified[1].encode('utf-8'))
+    check_identified(asked, tree, (status, line), identified)
 
 
 def try_trees(folder: str, seed: int, rounds: int) -> None:

@@ -17,7 +17,7 @@ import ssl
 import sys
 import threading
 
-from ttlv import FAILED, message_of, operation_of, response, value_of
+from ttlv import FAILED, id_of, identified, message_of, operation_of, response, value_of
 
 mode, server_port, certs = sys.argv[1], int(sys.argv[2]), sys.argv[3]
 AUTHENTICATION_NOT_SUCCESSFUL = 3
@@ -38,8 +38,9 @@ def serve(wire):
     behind = server()
     while request := message_of(wire):
         if mode == 'password' and (value_of(request, '420099', 7), value_of(request, '4200A1', 7)) != (b'alice', b'secret'):
-            wire.sendall(response(operation_of(request), None, status=FAILED, reason=AUTHENTICATION_NOT_SUCCESSFUL,
-                                  message='who are you'))
+            refusal = response(operation_of(request), None, status=FAILED, reason=AUTHENTICATION_NOT_SUCCESSFUL,
+                               message='who are you')
+            wire.sendall(identified(refusal, id_of(request)))
             continue
         behind.sendall(request)
         answer = message_of(behind)

@@ -9,6 +9,9 @@ It writes a line `NAME PORT` for each, then `ready`, and serves on 127.0.0.1 unt
 below, `@fake` above it: it is called for each request with the connection and the request's bytes, and returns True where
 it is done with the connection.
 
+What is answered to a request of one batch item has the item's Unique Batch Item ID (KMIP 1.0, 6.4), where that has one; but
+for the fakes with `@own_ids` above them, whose answers are sent as they are.
+
 What a test waits for is told, and takes no time of its own: a busy machine changes no outcome. So an end comes with the
 last bytes, and `control` says what `held` has.
 """
@@ -27,9 +30,9 @@ import time
 
 import records
 from registry import (ADD_ATTRIBUTE, CREATE_KEY_PAIR, DELETE_ATTRIBUTE, FAKES, GET, MODIFY_ATTRIBUTE, PLAIN, QUERY,
-                      RNG_RETRIEVE, SIGN, fake, plain)
-from ttlv import (FAILED, PENDING, SUCCESS, UNDONE, batch_item, date, enumeration, header, identifier, item,
-                  message_of, nested, octets, operation_of, response, structure, text, value_of)
+                      OWN_IDS, RNG_RETRIEVE, SIGN, fake, own_ids, plain)
+from ttlv import (FAILED, PENDING, SUCCESS, UNDONE, batch_item, date, enumeration, header, id_of, identified, identifier, item,
+                  items_of, message_of, nested, octets, operation_of, response, structure, text, value_of)
 
 for it in 'objects', 'curves':      # fakes of their own
     importlib.import_module(it)
@@ -150,16 +153,6 @@ def certificate(wire, request):
     wire.sendall(response(QUERY, [text(0x42009D, owner.get('commonName', 'nobody'))]))
 
 
-def items_of(request):
-    """The batch items of a request, each as its contents."""
-    at, made = request.find(bytes.fromhex('42000F01')), []
-    while 0 <= at < len(request):
-        length = int.from_bytes(request[at + 4:at + 8], 'big')
-        made.append(request[at + 8:at + 8 + length])
-        at += 8 + length
-    return made
-
-
 class Kept:
     """In the place of a connection: what was sent on it."""
 
@@ -172,7 +165,7 @@ class Kept:
 
 
 def batch_answer(body):
-    """What `good` answers to a batch item, or `transparent` to get, with its identifier in the batch, but for `unnamed`;
+    """What `good` answers to a batch item, or `transparent` to get, with its Unique Batch Item ID, but for `unnamed`;
     about `failing` that it is not found, about `other operation` as that of Destroy."""
     asked, operation = value_of(body, '420094', 7), operation_of(body)
     name = b'' if asked == b'unnamed' else octets(0x420093, value_of(body, '420093', 8) or b'')
@@ -185,7 +178,7 @@ def batch_answer(body):
     return structure(0x42000F, one[:16], name, one[16:])
 
 
-@fake
+@own_ids
 def batches(wire, request):
     """answers each item of a batch as `good` does, and get as `transparent`, the last one first; about `failing` it fails, and
     where the batch ends at a failure, those after it are not answered; with the item `unknown` comes one that was not asked
@@ -196,17 +189,59 @@ def batches(wire, request):
         asked = value_of(body, '420094', 7)
         made[:0] = [batch_answer(body)] * {b'twice': 2, b'left out': 0}.get(asked, 1)
         if asked == b'unknown':
-            made.append(batch_answer(body.replace(bytes.fromhex('4200930800000004') + value_of(body, '420093', 8),
-                                                  bytes.fromhex('420093080000000400000063'))))
+            name = value_of(body, '420093', 8)
+            made.append(batch_answer(body.replace(octets(0x420093, name), octets(0x420093, bytes(it ^ 255 for it in name)))))
         if asked == b'failing' and value_of(request, '42000E', 5) == b'\0\0\0\2':
             break
     wire.sendall(structure(0x42007B, header(count=len(made)), *made))
 
 
-@fake
+@own_ids
+def earlier_batch(wire, request):
+    """answers the first batch of a connection as `batches`, and each one after it with the same bytes"""
+    if not hasattr(wire, 'earlier'):
+        wire.earlier = Kept(batches, request).sent
+    wire.sendall(wire.earlier)
+
+
+@own_ids
 def no_batches(wire, request):
     """refuses each message as a whole: it takes no batches"""
-    wire.sendall(structure(0x42007B, header(), batch_item(None, None, status=FAILED, reason=5, message='no batches')))
+    wire.sendall(response(None, None, status=FAILED, reason=5, message='no batches'))
+
+
+@fake
+def ids(wire, request):
+    """answers with the Unique Batch Item ID of the request as its data, where there is one"""
+    name = id_of(request)
+    wire.sendall(response(operation_of(request), [identifier(value_of(request, '420094', 7) or b'1'),
+                                                  b'' if name is None else octets(0x4200C2, name)]))
+
+
+def answer_or_failure(request):
+    """A good answer to this request, or about `failing` that it is not found."""
+    if value_of(request, '420094', 7) != b'failing':
+        return answer_of(request)
+    return response(operation_of(request), None, status=FAILED, reason=1)
+
+
+@own_ids
+def no_id(wire, request):
+    """is good, but says of no answer to which item of the request it is; about `failing` it fails so"""
+    wire.sendall(answer_or_failure(request))
+
+
+@own_ids
+def other_id(wire, request):
+    """is good, but its answers are to another item than that of the request; about `failing` it fails so"""
+    name = id_of(request) or b'other id'
+    wire.sendall(identified(answer_or_failure(request), name[:-1] + bytes([name[-1] ^ 1])))
+
+
+@own_ids
+def unread(wire, request):
+    """fails, and says neither of which operation nor to which item of the request"""
+    wire.sendall(response(None, None, status=FAILED, reason=4, message='not read'))
 
 
 CAME = collections.Counter()    # the requests of each user
@@ -686,6 +721,15 @@ def by_records(name, certs, plain):
             FAKES[name](Recorded(plain, tls, made), message_of(tls))
 
 
+class Wire(ssl.SSLSocket):
+    """A connection on which a response has the Unique Batch Item ID of its request."""
+
+    name = None
+
+    def sendall(self, data, flags=0):
+        super().sendall(identified(data, self.name), flags)
+
+
 def connection(name, context, plain):
     with context.wrap_socket(plain, server_side=True, suppress_ragged_eofs=False) as wire:
         if name == 'closing':
@@ -696,6 +740,7 @@ def connection(name, context, plain):
         try:
             while True:
                 request = message_of(wire)
+                wire.name = None if name in OWN_IDS else id_of(request)
                 if not request and hasattr(wire, 'end'):
                     wire.end.how = 'in order'
                 if not request or FAKES[name](wire, request):
@@ -732,6 +777,7 @@ def context_of(certs, name):
     context.load_cert_chain('%s/%s.pem' % (certs, name), '%s/%s.key' % (certs, name))
     context.load_verify_locations(certs + '/ca.pem')
     context.verify_mode = ssl.CERT_OPTIONAL
+    context.sslsocket_class = Wire
     # So that it is known whether a connection was ended in order.
     context.options &= ~getattr(ssl, 'OP_IGNORE_UNEXPECTED_EOF', 0)
     return context

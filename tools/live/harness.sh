@@ -44,7 +44,7 @@
 here=$top/tools/live
 clients=(shell c python rust openssl)
 topics=()
-slack=1
+slack=10
 python=${PYTHON:-/usr/bin/python3}
 [[ -x $python ]] || python=python3
 

@@ -23,7 +23,7 @@ database_path=$dir/pykmip.db
 CONF
 setsid pykmip-server -f "$dir/server.conf" -l "$dir/server.log" >"$dir/server.out" 2>&1 </dev/null &
 echo $! >"$dir/server.pid"
-for _ in $(seq 300); do
+for _ in $(seq 1200); do
     if grep -q 'Starting connection service' "$dir/server.log" 2>/dev/null; then exit 0; fi
     kill -0 "$(cat "$dir/server.pid")" 2>/dev/null || break
     sleep 0.1

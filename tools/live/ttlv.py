@@ -87,6 +87,39 @@ def items_in(contents):
     return made
 
 
+def items_of(request):
+    """The batch items of a request, each as its contents."""
+    at, made = request.find(bytes.fromhex('42000F01')), []
+    while 0 <= at < len(request):
+        length = int.from_bytes(request[at + 4:at + 8], 'big')
+        made.append(request[at + 8:at + 8 + length])
+        at += 8 + length
+    return made
+
+
+def id_of(request):
+    """The Unique Batch Item ID of a request of one batch item, or None."""
+    items = items_of(request)
+    return dict(items_in(items[0])).get(0x420093) if len(items) == 1 else None
+
+
+def identified(message, name):
+    """A response with this Unique Batch Item ID in each batch item, behind its operation (KMIP 1.0, 6.4 and 7.2). Where the
+    name is None, or it is no response, it is as it was."""
+    if name is None or message[:4] != bytes.fromhex('42007B01') or len(message) != 8 + int.from_bytes(message[4:8], 'big'):
+        return message
+    made, at = [], 8
+    while at < len(message):
+        length = int.from_bytes(message[at + 4:at + 8], 'big')
+        whole = message[at:at + 8 + length + -length % 8]
+        at += len(whole)
+        if whole[:4] == bytes.fromhex('42000F01'):
+            front = 24 if whole[8:11] == bytes.fromhex('42005C') else 8
+            whole = structure(0x42000F, whole[8:front], octets(0x420093, name), whole[front:])
+        made.append(whole)
+    return structure(0x42007B, *made)
+
+
 def message_of(wire):
     """One message that came, or no bytes at the end."""
     got = b''

@@ -172,6 +172,30 @@ static void other_items(const kmip_settings *settings) {
         loses(settings, rows[i].names, rows[i].text);
 }
 
+/* An answer that comes twice is none to the next batch, though that asks the same; nor is it where
+   the same batch is sent again. */
+static void earlier(const kmip_settings *settings, bool same) {
+    kmip_client *client = opened(settings);
+    kmip_batch *first = activating(client, KMIP_ON_ERROR_CONTINUE, "a", "k", NULL);
+    kmip_batch *second = activating(client, KMIP_ON_ERROR_CONTINUE, "a", "k", NULL);
+    kmip_batch *next = same ? first : second;
+    check(kmip_batch_send(first) == KMIP_ANSWERED && kmip_batch_answer(first, 1) == KMIP_ANSWERED,
+          "the first batch is answered");
+    check(kmip_batch_send(next) == KMIP_LOST && kmip_was_sent(client) &&
+              kmip_error_kind(client) == KMIP_KIND_OTHER_ANSWER,
+          same ? "the same answer again is none" : "an answer to an earlier batch is none");
+    check_text(kmip_line(client),
+               "{\"error\":\"InternalError\",\"text\":\"an item of the response is of no call of "
+               "the batch\"}",
+               "and why is said");
+    check(kmip_batch_answer(next, 0) == KMIP_CALL_GRAMMAR, "no call of it has an answer");
+    check(kmip_call(client, "query", NULL) == KMIP_LOST && !kmip_was_sent(client),
+          "the connection is closed");
+    kmip_batch_free(first);
+    kmip_batch_free(second);
+    kmip_close(client);
+}
+
 /* A message that is refused as a whole is the error of each. */
 static void no_batches(kmip_client *client) {
     kmip_batch *batch = activating(client, KMIP_ON_ERROR_STOP, "a", "k", NULL);
@@ -224,6 +248,10 @@ int main(int argc, char **argv) {
         refused(client);
         other_items(&settings);
         another_operation(client);
+    }
+    if (strcmp(mode, "earlier_batch") == 0) {
+        earlier(&settings, false);
+        earlier(&settings, true);
     }
     if (strcmp(mode, "no_batches") == 0) no_batches(client);
     if (strcmp(mode, "others") == 0) others(client);

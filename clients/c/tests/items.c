@@ -106,8 +106,9 @@ static void torn(void) {
 /* What the library makes of a payload, in room that stays until the next. */
 static int64_t request_of(const char *payload, uint8_t *into, size_t room) {
     return kmip_operation_request((const uint8_t *)"Register", 8, (const uint8_t *)"1.0", 3,
-                                  (const uint8_t *)payload, strlen(payload), false,
-                                  (const uint8_t *)"", 0, (const uint8_t *)"", 0, into, room);
+                                  (const uint8_t *)"", 0, (const uint8_t *)payload, strlen(payload),
+                                  false, (const uint8_t *)"", 0, (const uint8_t *)"", 0, into,
+                                  room);
 }
 
 /* A certificate, and its bytes as hex digits. */

@@ -10,8 +10,9 @@
 from .batch import Batch
 from .client import Client
 from .errors import (ConnectError, ConnectionLost, DeserializeError, GrammarError, InternalError,
-                     ItemNotFound, KmipError, LibraryError, MissingValue, NotDone, OtherObject,
-                     Reason, Refused, RequestWriteError, ResponseReadError, SerializeError, ServerError)
+                     ItemNotFound, KmipError, LibraryError, MissingValue, NotDone, NotRecorded,
+                     OtherObject, Reason, Refused, RequestWriteError, ResponseReadError,
+                     SerializeError, ServerError)
 from .items import Item
 from .objects import KeyPair, ManagedObject, Signed
 from .pool import Pool
@@ -19,8 +20,8 @@ from .pool import Pool
 __version__ = '1.0'
 
 __all__ = [
-    'Batch', 'Client', 'ConnectError', 'ConnectionLost', 'DeserializeError', 'GrammarError', 'InternalError',
-    'Item', 'ItemNotFound', 'KeyPair', 'KmipError', 'LibraryError', 'ManagedObject',
-    'MissingValue', 'NotDone', 'OtherObject', 'Pool', 'Reason', 'Refused', 'RequestWriteError', 'ResponseReadError',
-    'SerializeError', 'ServerError', 'Signed',
+    'Batch', 'Client', 'ConnectError', 'ConnectionLost', 'DeserializeError', 'GrammarError',
+    'InternalError', 'Item', 'ItemNotFound', 'KeyPair', 'KmipError', 'LibraryError',
+    'ManagedObject', 'MissingValue', 'NotDone', 'NotRecorded', 'OtherObject', 'Pool', 'Reason',
+    'Refused', 'RequestWriteError', 'ResponseReadError', 'SerializeError', 'ServerError', 'Signed',
 ]

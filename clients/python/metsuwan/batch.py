@@ -4,7 +4,7 @@ from __future__ import annotations
 
 import json
 import struct
-from typing import TYPE_CHECKING, Any, Dict, Iterator, List, Mapping, Tuple, Union
+from typing import TYPE_CHECKING, Any, Dict, Iterator, List, Mapping, Optional, Tuple, Union
 
 from .calls import Option, Word, line_of
 from .errors import DeserializeError, GrammarError, KmipError, NotDone, OtherObject
@@ -19,7 +19,8 @@ HEAD = 8
 STRUCTURE, INTEGER, ENUMERATION, BYTES = 1, 2, 5, 8
 HEADER, BATCH_COUNT, CONTINUATION, BATCH_ITEM = 0x420077, 0x42000D, 0x42000E, 0x42000F
 VERSION, OPERATION, ITEM_ID, RESPONSE_HEADER = 0x420069, 0x42005C, 0x420093, 0x42007A
-RESULT_STATUS, SUCCESS = 0x42007F, b'\0\0\0\0'
+RESULT_STATUS = 0x42007F
+FAILED = struct.pack('>I', 1)                   # a Result Status
 OPTIONS = {'Continue': 1, 'Stop': 2, 'Undo': 3}
 
 
@@ -45,11 +46,18 @@ def _parts(structure: bytes) -> Iterator[Tuple[int, bytes, bytes]]:
         at = end
 
 
-def _with_id(item: bytes, name: bytes) -> bytes:
+def ids_of(first: bytes, count: int) -> List[bytes]:
+    """So many Unique Batch Item IDs of eight bytes: the first one, which is random, so that no
+    answer to another batch has them, and the numbers that follow it."""
+    number = int.from_bytes(first, 'big')
+    return [((number + at) % (1 << 64)).to_bytes(8, 'big') for at in range(count)]
+
+
+def _with_id(item: bytes, item_id: bytes) -> bytes:
     """A batch item of a request with a Unique Batch Item ID, which stands after its operation."""
     made = b''
     for tag, whole, _ in _parts(item):
-        made += whole + (_item(ITEM_ID, BYTES, name) if tag == OPERATION else b'')
+        made += whole + (_item(ITEM_ID, BYTES, item_id) if tag == OPERATION else b'')
     return _item(BATCH_ITEM, STRUCTURE, made)
 
 
@@ -66,8 +74,8 @@ def _split(message: bytes, header_tag: int) -> Tuple[List[Tuple[int, bytes, byte
     return header, items
 
 
-def message_of(requests: List[bytes], on_error: int) -> bytes:
-    """One message of these requests, with the highest of their versions."""
+def message_of(requests: List[bytes], ids: List[bytes], on_error: int) -> bytes:
+    """One message of these requests with these IDs, and with the highest of their versions."""
     split = [_split(request, HEADER) for request in requests]
     version = max(part for header, _ in split for part in header if part[0] == VERSION)
     made = b''
@@ -76,7 +84,7 @@ def message_of(requests: List[bytes], on_error: int) -> bytes:
             made += _item(CONTINUATION, ENUMERATION, struct.pack('>I', on_error))
             whole = _item(BATCH_COUNT, INTEGER, struct.pack('>i', len(requests)))
         made += version[1] if tag == VERSION else whole
-    items = [_with_id(items[0], struct.pack('>I', at)) for at, (_, items) in enumerate(split)]
+    items = [_with_id(items[0], item_id) for item_id, (_, items) in zip(ids, split)]
     return _item(0x420078, STRUCTURE, _item(HEADER, STRUCTURE, made) + b''.join(items))
 
 
@@ -89,32 +97,46 @@ def _single(header: List[Tuple[int, bytes, bytes]], item: bytes) -> bytes:
                  _item(BATCH_ITEM, STRUCTURE, rest))
 
 
-def _values(item: bytes, wanted: int) -> List[bytes]:
-    """The values of a batch item that have this tag."""
-    return [body for tag, _, body in _parts(item) if tag == wanted]
+def _ids_in(item: bytes) -> List[Optional[bytes]]:
+    """The Unique Batch Item IDs of a batch item; None of one that is no bytes."""
+    return [body if whole[3] == BYTES else None
+            for tag, whole, body in _parts(item) if tag == ITEM_ID]
 
 
-def responses_of(message: bytes, count: int) -> List[bytes]:
-    """Of each of so many calls the response, or no bytes where the server has not done it.
+def _has_failed(item: bytes) -> bool:
+    """Whether a batch item says that its call has failed."""
+    status = [(whole[3], body) for tag, whole, body in _parts(item) if tag == RESULT_STATUS]
+    return status[:1] == [(ENUMERATION, FAILED)]
+
+
+def responses_of(message: bytes, ids: List[bytes], on_error: int) -> List[bytes]:
+    """Of each call, by these IDs, the response, or no bytes where the server has not done it.
 
     :raises DeserializeError: the message is not well formed
-    :raises OtherObject: an item of it is of no call, or two are of one
+    :raises OtherObject: an item of it is of no call, or two are of one, or a call has none where no
+        call before it failed
     """
     try:
         header, items = _split(message, RESPONSE_HEADER)
-        names = [_values(it, ITEM_ID) for it in items]
-        failed = len(items) == 1 and SUCCESS not in _values(items[0], RESULT_STATUS)
+        named = [_ids_in(it) for it in items]
+        failed = [_has_failed(it) for it in items]
     except ValueError as error:
         raise DeserializeError(str(error)) from None
-    if failed and not names[0]:
+    if failed == [True] and not named[0]:
         # A failure of the whole message, as where a server takes no batches.
-        return [_single(header, items[0])] * count
-    found = [b''] * count
-    for item, given in zip(items, names):
-        at = int.from_bytes(given[0], 'big') if given and len(given[0]) == 4 else count
-        if at >= count or found[at]:
+        return [_single(header, items[0])] * len(ids)
+    places: Dict[Optional[bytes], int] = {item_id: at for at, item_id in enumerate(ids)}
+    found, ended = [b''] * len(ids), len(ids)
+    for item, given, has_failed in zip(items, named, failed):
+        at = places.get(given[0]) if len(given) == 1 else None
+        if at is None or found[at]:
             raise OtherObject('an item of the response is of no call of the batch')
         found[at] = _single(header, item)
+        # Only after a call that failed a server may have ended.
+        if has_failed and on_error != OPTIONS['Continue']:
+            ended = min(ended, at)
+    if b'' in found[:ended]:
+        raise OtherObject('a call of the batch has no item in the response')
     return found
 
 

@@ -4,6 +4,7 @@ from __future__ import annotations
 import contextlib
 import json
 import logging
+import os
 import ssl
 import threading
 import time
@@ -11,11 +12,11 @@ from typing import (Any, Callable, Dict, Iterator, List, Mapping, Optional, Sequ
                     Union)
 from urllib.parse import unquote_to_bytes
 
-from .batch import Answer, Batch, message_of, not_done, responses_of
+from .batch import Answer, Batch, ids_of, message_of, not_done, responses_of
 from .calls import Bytes, Option, Word, line_of
 from .errors import (ConnectError, ConnectionLost, DeserializeError, GrammarError, MissingValue,
-                     KmipError, OtherObject, RequestWriteError, ResponseReadError, SerializeError,
-                     error_of)
+                     KmipError, NotRecorded, OtherObject, RequestWriteError, ResponseReadError,
+                     SerializeError, error_of)
 from .items import Item
 from .keys import Text, block_of, key_of_pem, registration
 from .library import (ANSWERED, CALL_GRAMMAR, GRAMMAR, LOST, NO_FORM, NO_MEMORY, TOO_LONG,
@@ -23,7 +24,8 @@ from .library import (ANSWERED, CALL_GRAMMAR, GRAMMAR, LOST, NO_FORM, NO_MEMORY,
 from .objects import KeyPair, ManagedObject, Signed, bytes_at, text_at, value_at
 from .operations import Names, Operations, attributes_of
 from .pem import certificate_der, is_pem
-from .wire import Passphrase, Port, Wire, context_of, is_port
+from .records import Record, line_of as record_of
+from .wire import Passphrase, Port, Wire, context_of, is_host, is_port
 
 HEAD = 8
 LOG = logging.getLogger('metsuwan')
@@ -46,6 +48,16 @@ def _credential(user: Optional[str], password: Optional[str]) -> Credential:
         return user.encode(), password.encode()
     except UnicodeEncodeError:
         raise ValueError('the user or the password is not UTF-8') from None
+
+
+def _check_timeout(timeout: Optional[float]) -> None:
+    if timeout is None:
+        return
+    if isinstance(timeout, bool) or not isinstance(timeout, (int, float)):
+        raise TypeError('a timeout is a number of seconds, and %s was given'
+                        % type(timeout).__name__)
+    if not 0 <= timeout < 1e9:
+        raise ValueError('a timeout is 0 to 1e9 seconds')
 
 
 def _files(*files: Optional[str]) -> Tuple[str, str, str]:
@@ -74,6 +86,10 @@ class Client(Operations):
     :param reconnect: a connection that is lost is opened again for the next call. A call itself is
         made again, once, where nothing of it was sent, or where it changes nothing, as ``get`` and
         ``sign``; the logger ``metsuwan`` tells of it
+    :param record: a function that is told, of each exchange whose whole response came, a line with
+        the request, without the credential, and the response, as ``file.write``: keys stand in it
+        where they were sent or given. ``kmip_run replay`` answers those that begin with ``raw``
+        again; the others begin with ``message``
     :param library: the path of ``libmetsuwan.so``; if it is left out, the environment's
         ``LIBMETSUWAN``, that of this package, or the system's
     :raises ConnectError: there is no connection; its ``__cause__`` is the error of ``ssl`` or
@@ -88,18 +104,21 @@ class Client(Operations):
                  passphrase: Passphrase = None, context: Optional[ssl.SSLContext] = None,
                  user: Optional[str] = None, password: Optional[str] = None,
                  limit: int = 1 << 20, timeout: Optional[float] = 30.0, reconnect: bool = False,
-                 library: Optional[str] = None) -> None:
+                 record: Record = None, library: Optional[str] = None) -> None:
         if isinstance(limit, bool) or not isinstance(limit, int):
             raise TypeError('a limit is an int, and %s was given' % type(limit).__name__)
         if not 0 <= limit < 1 << 32:
             raise ValueError('a limit is 0 to 4294967295')
-        if timeout is not None and not 0 <= timeout < 1e9:
-            raise ValueError('a timeout is 0 to 1e9 seconds')
+        _check_timeout(timeout)
+        if not isinstance(host, str):
+            raise TypeError('a host is a text, and %s was given' % type(host).__name__)
+        if not is_host(host):
+            raise ValueError('a host is a name or an address')
         if not is_port(port):
             raise ValueError('a port is a number of 1 to 65535, or the name of a service')
         self._credential = _credential(user, password)
         self._library = Library(library)
-        self._limit = limit
+        self._limit, self._record = limit, record
         # Only one thread at a time is within a call, and it only once.
         self._lock, self._is_busy = threading.RLock(), False
         self._server = '%s:%s' % (host, port)
@@ -110,7 +129,8 @@ class Client(Operations):
         elif (cert, key, ca, passphrase) != (None,) * 4:
             raise TypeError('a context stands in the place of cert, key, ca and passphrase')
         # What opens a connection; None once the client is closed by its owner.
-        self._open: Optional[Callable[[], Wire]] = lambda: Wire(host, port, context, timeout or None)
+        trusted, seconds = context, timeout or None
+        self._open: Optional[Callable[[], Wire]] = lambda: Wire(host, port, trusted, seconds)
         self._reconnects = reconnect
         self._wire = self._opened()
 
@@ -186,7 +206,11 @@ class Client(Operations):
         response's payload. Whether it is about the object that was asked about is the caller's to
         look at.
 
+        The request has eight random bytes as its Unique Batch Item ID. An answer with another one,
+        or with none, is that of another call.
+
         :raises KmipError: by kind, as ``ItemNotFound``, with the server's message
+        :raises OtherObject: the answer is that of another call
         :raises GrammarError: the operation or the version has another name, or the payload is none
         """
         if not isinstance(payload, (str, Mapping)):
@@ -209,9 +233,33 @@ class Client(Operations):
     def _answer_to(self, call: Call) -> Dict[str, Any]:
         with self._alone():
             status, line, response = self._exchange(call)
+            unwritten = self._keep([call], response)
             if status == REFUSED:
                 status, line = self._tree_of(call, response) or (status, line)
-        return self._read(call, status, line)
+        if unwritten is None:
+            return self._read(call, status, line)
+        try:
+            answer: Answer = self._read(call, status, line)
+        except KmipError as error:
+            answer = error
+        raise NotRecorded(str(unwritten), answer) from unwritten
+
+    def _keep(self, calls: List[Call], response: bytes,
+              batch: Optional[Tuple[List[bytes], int]] = None) -> Optional[Exception]:
+        """Tells the record of an exchange, or gives the error of that. The request in it has no
+        credential, and no Unique Batch Item ID but those of a batch, which come with what the
+        server does after an error."""
+        if self._record is None or not response:
+            return None
+        made = [it for it in map(self._library.request, calls) if isinstance(it, bytes)]
+        if len(made) < len(calls):
+            return MemoryError('out of memory')
+        request = message_of(made, *batch) if batch else made[0]
+        try:
+            self._record(record_of(self._library, request, response))
+        except Exception as error:  # whatever the function raises, the call has been made
+            return error
+        return None
 
     def _read(self, call: Call, status: int, line: str) -> Dict[str, Any]:
         """The answer in a line of JSON, or the error that it is."""
@@ -251,11 +299,12 @@ class Client(Operations):
         made = [it for it in requests if isinstance(it, bytes)]
         if len(made) < len(calls):
             raise MemoryError
-        message = message_of(made, on_error)
         with self._alone(), self._logged('a batch of %d' % len(calls)) as log:
             try:
-                response = self._response(self._ready(), message)
-                responses = responses_of(response, len(calls))
+                ids = ids_of(self._item_id(), len(calls))
+                response = self._response(self._ready(), message_of(made, ids, on_error))
+                unwritten = self._keep(calls, response, (ids, on_error))
+                responses = responses_of(response, ids, on_error)
             except BaseException:
                 self._end(False)
                 raise
@@ -263,6 +312,8 @@ class Client(Operations):
             answers = [self._answer_of(*it) for it in zip(calls, responses)]
             if any(isinstance(it, ConnectionLost) for it in answers):
                 self._end(False)
+        if unwritten is not None:
+            raise NotRecorded(str(unwritten), answers) from unwritten
         return answers
 
     def _answer_of(self, call: Call, response: bytes) -> Answer:
@@ -483,6 +534,15 @@ class Client(Operations):
         """Destroys a key that is not active."""
         self.call('destroy', identifier)
 
+    def _item_id(self) -> bytes:
+        """A Unique Batch Item ID, which no answer to another call has."""
+        try:
+            return os.urandom(8)
+        except (NotImplementedError, OSError) as error:
+            self._end(False)
+            raise RequestWriteError('no random bytes for the Unique Batch Item ID: %s; nothing was '
+                                    'sent' % error) from error
+
     def _is_other(self) -> None:
         with self._alone():
             self._end(False)
@@ -498,6 +558,8 @@ class Client(Operations):
         connection of which it is not known what comes next is closed."""
         if self._wire is None and not self._reconnects:
             raise RequestWriteError('the connection is closed; nothing was sent')
+        if isinstance(call, Operation):
+            call = call._replace(item_id=self._item_id())
         request = self._library.request(call, self._credential)
         if request == GRAMMAR:
             return CALL_GRAMMAR, '', b''

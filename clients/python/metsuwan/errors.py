@@ -74,6 +74,18 @@ class GrammarError(KmipError, ValueError):
     kind = 'GrammarError'
 
 
+class NotRecorded(KmipError):
+    """The call was made, and the function that is told its record has raised ``__cause__``. The
+    connection is good. ``answer`` is what the call would have returned, or the error that it would
+    have raised; of a batch, all its answers."""
+
+    kind = 'NotRecorded'
+
+    def __init__(self, text: str, answer: Any = None) -> None:
+        super().__init__(text)
+        self.answer = answer
+
+
 class LibraryError(KmipError, OSError):
     """There is no library that can be loaded, or it is not this package's. Nothing was sent."""
 

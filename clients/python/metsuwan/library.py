@@ -11,11 +11,13 @@ Credential = Optional[Tuple[bytes, bytes]]
 
 
 class Operation(NamedTuple):
-    """A call of any operation: its name, the version of KMIP, and its payload in JSON."""
+    """A call of any operation: its name, the version of KMIP, its payload in JSON, and its Unique
+    Batch Item ID, which has no bytes where none is sent."""
 
     name: bytes
     version: bytes
     payload: bytes
+    item_id: bytes = b''
 
 
 # A line of words, or any operation.
@@ -35,7 +37,10 @@ def _path() -> str:
 
 
 def _parts(call: Call) -> List[bytes]:
-    return list(call) if isinstance(call, Operation) else [call]
+    """What a request is made of, and an answer read by."""
+    if isinstance(call, Operation):
+        return [call.name, call.version, call.item_id, call.payload]
+    return [call]
 
 
 def _with_lengths(parts: List[bytes]) -> List[Union[bytes, int]]:
@@ -74,7 +79,7 @@ class Library:
         self._request.argtypes = [text, size, ctypes.c_bool, text, size, text, size, text, size]
         self._operation_request = library.kmip_operation_request
         self._operation_request.restype = signed
-        self._operation_request.argtypes = [text, size, text, size, *self._request.argtypes]
+        self._operation_request.argtypes = [text, size] * 3 + self._request.argtypes
         self._refusal = library.kmip_refusal
         self._refusal.restype = signed
         self._refusal.argtypes = [text, size, text, size]
@@ -86,7 +91,7 @@ class Library:
         self._answer.argtypes = [text, size, text, size, text, size, ctypes.POINTER(signed)]
         self._operation_answer = library.kmip_operation_answer
         self._operation_answer.restype = ctypes.c_int32
-        self._operation_answer.argtypes = [text, size, text, size, *self._answer.argtypes]
+        self._operation_answer.argtypes = [text, size] * 3 + self._answer.argtypes
         self._operation_refusal = library.kmip_operation_refusal
         self._operation_refusal.restype = signed
         self._operation_refusal.argtypes = [text, size, text, size, text, size, text, size]
@@ -121,11 +126,14 @@ class Library:
 
         :raises MemoryError:
         """
-        read = self._operation_refusal if isinstance(call, Operation) else self._refusal
+        if isinstance(call, Operation):
+            read, parts = self._operation_refusal, [call.name, call.version, call.payload]
+        else:
+            read, parts = self._refusal, [call]
         room = 1024
         while True:
             into = ctypes.create_string_buffer(room)
-            length: int = read(*_with_lengths(_parts(call)), into, room)
+            length: int = read(*_with_lengths(parts), into, room)
             if length == MEMORY:
                 raise MemoryError
             if length == GRAMMAR:

@@ -158,7 +158,7 @@ class Operations:
                    mode: Optional[str] = None, padding: Optional[str] = None,
                    hash: Optional[str] = None, cipher: Optional[str] = None,
                    usage: Names = None, name: Optional[str] = None) -> str:
-        """Derives a symmetric key of ``algorithm`` and so many bits from an object, or from several,
+        """Derives a symmetric key of ``algorithm`` and so many bits from an object or from several,
         and returns its identifier. ``method`` as ``PBKDF2``, ``HMAC``, ``HASH`` or ``ENCRYPT``, of
         which each wants its own of ``data``, ``iv``, ``salt``, ``iterations``, ``hash``, and of
         ``mode``, ``padding`` and ``cipher``, the algorithm that encrypts. KMIP 1.0; with ``cipher``

@@ -31,6 +31,12 @@ def is_port(port: Port) -> bool:
     return any(it.isalpha() for it in text)
 
 
+def is_host(host: str) -> bool:
+    """Whether it may be a name or an address. One that begins with a dot is none: OpenSSL takes it
+    for any name below it."""
+    return not host.startswith('.') and '\0' not in host and host.strip('[]') != ''
+
+
 def context_of(cert: str, key: str, ca: str, passphrase: Passphrase) -> ssl.SSLContext:
     """What a client of this certificate takes: servers of this authority alone, by their name.
 
@@ -38,6 +44,7 @@ def context_of(cert: str, key: str, ca: str, passphrase: Passphrase) -> ssl.SSLC
     """
     context = ssl.SSLContext(ssl.PROTOCOL_TLS_CLIENT)
     context.minimum_version = ssl.TLSVersion.TLSv1_2
+    context.options |= ssl.OP_NO_RENEGOTIATION
     # A name is one of the certificate's alternative names, and no common name.
     context.hostname_checks_common_name = False
     # The authority is that of the server's certificate, which may be of another one itself.

@@ -1,5 +1,8 @@
 """Several calls in one message."""
+import re
 import unittest
+from typing import Callable, List
+from unittest import mock
 
 from metsuwan import (ConnectionLost, GrammarError, Item, ItemNotFound, NotDone, OtherObject,
                       ServerError)
@@ -42,12 +45,37 @@ class Batches(unittest.TestCase):
 
     def test_what_is_no_batch(self) -> None:
         with client_of('good') as kmip:
-            for wrong in (lambda: kmip.batch(on_error='stop'), lambda: kmip.batch().send(),
-                          lambda: kmip.batch().call('activat', 'k'),
-                          lambda: kmip.batch().operation('Archive', '{}')):
+            wrongs: List[Callable[[], object]] = [
+                lambda: kmip.batch(on_error='stop'), lambda: kmip.batch().send(),
+                lambda: kmip.batch().call('activat', 'k'),
+                lambda: kmip.batch().operation('Archive', '{}')]
+            for wrong in wrongs:
                 with self.assertRaises(GrammarError):
                     wrong()
             self.assertEqual(kmip.query()['vendor_identification'], 'fake')
+
+    def test_an_answer_to_an_earlier_batch_loses_the_connection(self) -> None:
+        # Also where the same batch is sent again.
+        for same in (False, True):
+            with client_of('earlier_batch') as kmip, self.subTest(same):
+                first = kmip.batch().call('activate', 'a').call('activate', 'k')
+                second = kmip.batch().call('activate', 'a').call('activate', 'k')
+                self.assertEqual(first.send(), [{}, {}])
+                with self.assertRaises(OtherObject) as raised:
+                    (first if same else second).send()
+                self.assertEqual(raised.exception.text,
+                                 'an item of the response is of no call of the batch')
+                self.assertFalse(kmip.is_open)
+
+    def test_the_ids_are_numbers_that_follow_each_other(self) -> None:
+        told: List[str] = []
+        last = mock.patch('os.urandom', side_effect=lambda count: b'\xff' * count)
+        with client_of('batches', record=told.append) as kmip, last:
+            batch = kmip.batch().call('activate', 'a').call('query').call('activate', 'k')
+            first, _, third = batch.send()
+            self.assertEqual((first, third), ({}, {}))
+        ids = re.findall('4200930800000008([0-9A-F]{16})', told[0].split(' ')[1])
+        self.assertEqual(ids, ['F' * 16, '0' * 16, '0' * 15 + '1'])
 
     def test_an_item_that_was_not_asked_for_loses_the_connection(self) -> None:
         with client_of('batches') as kmip:
@@ -56,7 +84,8 @@ class Batches(unittest.TestCase):
             with self.assertRaises(ConnectionLost):
                 kmip.query()
         # So does a success that does not say of which call it is, also where there is one call.
-        for others in ([], ['query']):
+        rest: List[List[str]] = [[], ['query']]
+        for others in rest:
             with client_of('batches') as kmip, self.subTest(others):
                 batch = kmip.batch().call('activate', 'unnamed')
                 for other in others:
@@ -65,6 +94,13 @@ class Batches(unittest.TestCase):
                     batch.send()
                 with self.assertRaises(ConnectionLost):
                     kmip.query()
+        # So do two answers to a call, and none where no call before it has failed.
+        for name in ('twice', 'left out'):
+            for how in ('Continue', 'Stop', 'Undo'):
+                with client_of('batches') as kmip, self.subTest((name, how)):
+                    with self.assertRaises(OtherObject):
+                        kmip.batch(on_error=how).call('activate', name).call('query').send()
+                    self.assertFalse(kmip.is_open)
         # One answer with no identifier in the batch, or two of them, are of no call.
         for fake in ('rubbish', 'batch_two', 'half', 'other_operation'):
             with client_of(fake) as kmip, self.subTest(fake):

@@ -2,7 +2,7 @@
 import logging
 import threading
 import unittest
-from typing import List
+from typing import Any, Dict, List
 
 from metsuwan import Client, ConnectionLost, Item, Pool, ResponseReadError
 from metsuwan.errors import RequestWriteError
@@ -73,8 +73,9 @@ class Logs(unittest.TestCase):
 
 class Pools(unittest.TestCase):
     def setUp(self) -> None:
-        self.settings = {'cert': CERTS + '/client.pem', 'key': CERTS + '/client.key',
-                         'ca': CERTS + '/ca.pem', 'timeout': 60}
+        self.settings: Dict[str, Any] = {
+            'cert': CERTS + '/client.pem', 'key': CERTS + '/client.key', 'ca': CERTS + '/ca.pem',
+            'timeout': 60}
 
     def test_threads_share_it(self) -> None:
         done: List[bytes] = []

@@ -309,7 +309,8 @@ class Opening(unittest.TestCase):
     def test_settings_that_are_none(self) -> None:
         settings: List[Any] = [
             {'user': 'a'}, {'password': 'a'}, {'user': '\udcff', 'password': 'a'}, {'limit': -1},
-            {'limit': 1 << 32}, {'timeout': -1}, {'timeout': float('nan')},
+            {'limit': 1 << 32}, {'timeout': -1}, {'timeout': float('nan')}, {'host': ''},
+            {'host': 'localhost\0.example'},
         ]
         for setting in settings:
             with self.subTest(setting), self.assertRaises(ValueError):
@@ -318,12 +319,14 @@ class Opening(unittest.TestCase):
     def test_settings_of_another_type(self) -> None:
         settings: List[Any] = [
             {'limit': 1e6}, {'limit': True}, {'limit': '1'}, {'cert': None}, {'ca': None},
+            {'timeout': '1'}, {'timeout': True}, {'timeout': []}, {'host': b'localhost'},
             {'context': ssl.create_default_context()}]
         for setting in settings:
-            with self.subTest(setting), self.assertRaises(TypeError):
+            with self.subTest(setting), self.assertRaisesRegex(TypeError, next(iter(setting))):
                 given: Dict[str, Any] = {'cert': CERTS + '/client.pem', 'ca': CERTS + '/ca.pem',
-                                         'key': CERTS + '/client.key', **setting}
-                Client('localhost', PORTS['good'], **given)
+                                         'key': CERTS + '/client.key', 'host': 'localhost',
+                                         **setting}
+                Client(port=PORTS['good'], **given)
 
     def test_a_context_of_the_callers(self) -> None:
         with open(CERTS + '/ca.pem', encoding='ascii') as file:
@@ -348,6 +351,8 @@ class Opening(unittest.TestCase):
         with mock.patch('socket.getaddrinfo', return_value=here):
             with self.assertRaisesRegex(ConnectError, 'mismatch'):
                 client_of('wildcard', host='kms.example.test')
+            with self.assertRaisesRegex(ValueError, 'a host'):
+                client_of('wildcard', host='.example.test')
 
     def test_a_name_with_its_last_dot(self) -> None:
         here = socket.getaddrinfo('127.0.0.1', PORTS['good'], type=socket.SOCK_STREAM)

@@ -1,6 +1,6 @@
 """The methods that stand on operations: what they ask is what their arguments say."""
 import unittest
-from typing import Any, Dict, List
+from typing import Any, Callable, Dict, List
 
 from metsuwan import GrammarError, Item, MissingValue, OtherObject
 
@@ -24,10 +24,10 @@ class Typed(unittest.TestCase):
             self.asked.append((name, list(payload)[1:], payload[0]['value']))
             return Item('ResponsePayload', [Item('UniqueIdentifier', 'k'), *self.answer])
 
-        self.kmip.operation = operation  # type: ignore[method-assign]
+        setattr(self.kmip, 'operation', operation)
 
     def test_encrypt_and_decrypt(self) -> None:
-        how: Dict[str, str] = {'mode': 'CBC', 'padding': 'PKCS5', 'algorithm': 'AES'}
+        how: Dict[str, Any] = {'mode': 'CBC', 'padding': 'PKCS5', 'algorithm': 'AES'}
         self.answer = [Item('Data', b'sealed'), Item('IVCounterNonce', b'iv')]
         self.assertEqual(self.kmip.encrypt('k', b'x', **how), (b'sealed', b'iv'))
         self.answer = [Item('Data', b'opened')]
@@ -68,9 +68,12 @@ class Typed(unittest.TestCase):
         self.assertFalse(self.kmip.is_open)
 
     def test_what_is_none(self) -> None:
-        for wrong in (lambda: self.kmip.encrypt('k', 'x'),  # type: ignore[arg-type]
-                      lambda: self.kmip.mac(4, b'x'),  # type: ignore[arg-type]
-                      lambda: self.kmip.encrypt('k', b'x', mode=1)):  # type: ignore[arg-type]
+        text: Any = 'x'
+        number: Any = 4
+        wrongs: List[Callable[[], object]] = [
+            lambda: self.kmip.encrypt('k', text), lambda: self.kmip.mac(number, b'x'),
+            lambda: self.kmip.encrypt('k', b'x', mode=number)]
+        for wrong in wrongs:
             with self.assertRaises(TypeError):
                 wrong()
         with client_of('good') as kmip:

@@ -180,9 +180,30 @@ impl<'a, T: Read + Write> Batch<'a, T> {
         let asked: Vec<_> = self.calls.iter().map(Call::asked).collect();
         self.client.make_batch(
             &asked,
-            |requests| message_of(requests, self.on_error).ok_or_else(Error::no_form),
-            |response| responses_of(response, asked.len(), self.on_error),
+            |requests, ids| message_of(requests, ids, self.on_error).ok_or_else(Error::no_form),
+            |response, ids| responses_of(response, ids, asked.len(), self.on_error),
         )
+    }
+}
+
+/// The Unique Batch Item IDs of a batch: numbers of eight bytes that follow each other, from one that
+/// is random, so that no answer to another batch has them.
+#[derive(Clone, Copy)]
+pub(crate) struct Ids {
+    first: u64,
+}
+
+impl Ids {
+    pub(crate) fn new(first: [u8; 8]) -> Self {
+        Ids { first: u64::from_be_bytes(first) }
+    }
+
+    fn id(self, place: u64) -> [u8; 8] {
+        self.first.wrapping_add(place).to_be_bytes()
+    }
+
+    fn place(self, id: [u8; 8]) -> Option<usize> {
+        usize::try_from(u64::from_be_bytes(id).wrapping_sub(self.first)).ok()
     }
 }
 
@@ -255,7 +276,11 @@ fn split(request: &[u8]) -> Option<(Vec<Part<'_>>, Vec<Part<'_>>)> {
 
 /// One message of these requests, with the highest of their versions; `None` where it has no wire
 /// form.
-fn message_of(requests: &[Vec<u8>], on_error: BatchErrorContinuationOption) -> Option<Vec<u8>> {
+fn message_of(
+    requests: &[Vec<u8>],
+    ids: Ids,
+    on_error: BatchErrorContinuationOption,
+) -> Option<Vec<u8>> {
     let requests: Vec<_> = requests.iter().map(|it| split(it)).collect::<Option<_>>()?;
     let headers = requests.iter().flat_map(|(header, _)| header);
     // The bytes of these items have the order of the versions.
@@ -273,20 +298,20 @@ fn message_of(requests: &[Vec<u8>], on_error: BatchErrorContinuationOption) -> O
         }
     }
     let mut message = item(REQUEST_HEADER, STRUCTURE, &header)?;
-    for (name, (_, parts)) in (0_u32..).zip(&requests) {
-        message.extend(item_with_id(parts, name)?);
+    for (place, (_, parts)) in (0..).zip(&requests) {
+        message.extend(item_with_id(parts, ids.id(place))?);
     }
     item(REQUEST_MESSAGE, STRUCTURE, &message)
 }
 
-/// A batch item of a request with its identifier in the batch, which stands after its operation.
-fn item_with_id(parts: &[Part<'_>], name: u32) -> Option<Vec<u8>> {
-    let name = item(ITEM_ID, BYTES, &name.to_be_bytes())?;
+/// A batch item of a request with its Unique Batch Item ID, which stands after its operation.
+fn item_with_id(parts: &[Part<'_>], id: [u8; 8]) -> Option<Vec<u8>> {
+    let id = item(ITEM_ID, BYTES, &id)?;
     let mut made = Vec::new();
     for own in parts {
         made.extend(own.whole);
         if own.tag == OPERATION {
-            made.extend(&name);
+            made.extend(&id);
         }
     }
     item(BATCH_ITEM, STRUCTURE, &made)
@@ -316,14 +341,15 @@ impl<'a> Message<'a> {
         (0..self.parts.len()).filter(is_item).collect()
     }
 
-    /// The one place of a call that the item at this place names; `None`: it names none, or more.
-    fn name_of(&self, at: usize) -> Option<usize> {
-        let names: Vec<_> = self.parts[at].1.iter().filter(|it| it.tag == ITEM_ID).collect();
-        let [name] = names[..] else { return None };
-        usize::try_from(name.number(BYTES)?).ok()
+    /// The one ID of the item at this place; `None`: it has none, or more, or one that is not of
+    /// eight bytes.
+    fn id_of(&self, at: usize) -> Option<[u8; 8]> {
+        let ids: Vec<_> = self.parts[at].1.iter().filter(|it| it.tag == ITEM_ID).collect();
+        let [id] = ids[..] else { return None };
+        id.contents.try_into().ok().filter(|_| id.kind == BYTES)
     }
 
-    fn has_name(&self, at: usize) -> bool {
+    fn has_id(&self, at: usize) -> bool {
         self.parts[at].1.iter().any(|it| it.tag == ITEM_ID)
     }
 
@@ -356,6 +382,7 @@ impl<'a> Message<'a> {
 /// Of each of so many calls the response, or `None` where the server has not come to it.
 fn responses_of(
     response: &[u8],
+    ids: Ids,
     count: usize,
     on_error: BatchErrorContinuationOption,
 ) -> Result<Vec<Option<Vec<u8>>>> {
@@ -363,14 +390,14 @@ fn responses_of(
     let items = message.items();
     if let [alone] = items[..] {
         // A failure of the whole message, as where a server takes no batches.
-        if !message.has_name(alone) && message.has_failed(alone) {
+        if !message.has_id(alone) && message.has_failed(alone) {
             return Ok(vec![message.single(alone); count]);
         }
     }
     let mut places = vec![None; count];
     for at in items {
-        let place = message.name_of(at).and_then(|name| places.get_mut(name));
-        match place {
+        let place = message.id_of(at).and_then(|id| ids.place(id));
+        match place.and_then(|place| places.get_mut(place)) {
             Some(place) if place.is_none() => *place = Some(at),
             _ => {
                 return Err(Error::other_object(
@@ -387,4 +414,19 @@ fn responses_of(
         return Err(Error::other_object("a call of the batch has no item in the response"));
     }
     Ok(places.into_iter().map(|place| message.single(place?)).collect())
+}
+
+#[cfg(test)]
+mod tests {
+    use super::*;
+
+    #[test]
+    fn ids_follow_each_other_to_the_last_and_then_from_zero() {
+        let ids = Ids::new([0xFF, 0xFF, 0xFF, 0xFF, 0xFF, 0xFF, 0xFF, 0xFE]);
+        let wanted = [[255, 255, 255, 255, 255, 255, 255, 254], [255; 8], [0; 8]];
+        for (place, id) in (0..).zip(wanted) {
+            assert_eq!((ids.id(place), ids.place(id)), (id, usize::try_from(place).ok()));
+        }
+        assert_eq!(ids.place([255, 255, 255, 255, 255, 255, 255, 253]), Some(usize::MAX));
+    }
 }

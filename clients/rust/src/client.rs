@@ -1,12 +1,13 @@
 //! A client over a stream.
 use crate::answer::Answer;
-use crate::batch::Batch;
+use crate::batch::{Batch, Ids};
 use crate::error::{Error, Result};
 use crate::item::Item;
 use crate::keys;
 use crate::library::{self, BadHead, NoRequest, Operation, Status, NO_ITEMS};
 use crate::log::{Event, EventKind, Log, Told};
 use crate::options::Given;
+use crate::record::{self, Record};
 use crate::word::{self, Word};
 use std::fmt::{self, Debug, Formatter};
 use std::io::{self, ErrorKind, Read, Write};
@@ -20,6 +21,7 @@ const PIECE: usize = 65536;
 
 type BeforeCall<T> = Box<dyn FnMut(&mut T) -> io::Result<()> + Send>;
 type Reopen<T> = Box<dyn FnMut() -> Result<T> + Send>;
+type Random = fn(&mut [u8]) -> io::Result<()>;
 
 /// The calls that change nothing on the server: they may be made twice.
 const CHANGELESS: [&str; 20] = [
@@ -60,6 +62,7 @@ pub struct ClientBuilder<T> {
     before_call: BeforeCall<T>,
     reopen: Option<Reopen<T>>,
     log: Log,
+    record: Option<Record>,
 }
 
 impl<T: Read + Write> ClientBuilder<T> {
@@ -73,6 +76,7 @@ impl<T: Read + Write> ClientBuilder<T> {
             before_call: Box::new(|_: &mut T| Ok(())),
             reopen: None,
             log: Log { tell: None, server: None },
+            record: None,
         }
     }
 
@@ -113,6 +117,15 @@ impl<T: Read + Write> ClientBuilder<T> {
         ClientBuilder { log: Log { tell: Some(Box::new(tell)), ..self.log }, ..self }
     }
 
+    /// This is told of each exchange whose whole response came, also of an operation and of a batch,
+    /// a line with its line feed: `raw REQUEST RESPONSE` in hex, the request without its credential,
+    /// which `kmip_run replay` answers again; or, where it has no such call, `message REQUEST
+    /// RESPONSE`. Keys stand in it where they were sent or given. It is called within a call of the
+    /// client, which it may not use; what it cannot write is its own to tell.
+    pub fn with_record(self, tell: impl FnMut(&str) + Send + 'static) -> Self {
+        ClientBuilder { record: Some(Box::new(tell)), ..self }
+    }
+
     /// The server, for the log.
     #[cfg(feature = "openssl")]
     pub(crate) fn with_server(self, server: String) -> Self {
@@ -121,10 +134,10 @@ impl<T: Read + Write> ClientBuilder<T> {
 
     /// The client.
     pub fn build(self) -> Client<T> {
-        let ClientBuilder { stream, credential, limit, before_call, reopen, log } = self;
+        let ClientBuilder { stream, credential, limit, before_call, reopen, log, record } = self;
         let stream = Some(stream);
-        let wire = Wire { stream, is_busy: false, before_call, reopen, log };
-        Client { wire: Mutex::new(wire), credential, limit }
+        let wire = Wire { stream, is_busy: false, before_call, reopen, log, record };
+        Client { wire: Mutex::new(wire), credential, limit, random: library::random }
     }
 }
 
@@ -152,6 +165,8 @@ pub struct Client<T> {
     wire: Mutex<Wire<T>>,
     credential: Option<Credential>,
     limit: u32,
+    /// What makes the Unique Batch Item IDs of operations and batches.
+    random: Random,
 }
 
 /// A stream, and what goes with it.
@@ -163,6 +178,7 @@ struct Wire<T> {
     before_call: BeforeCall<T>,
     reopen: Option<Reopen<T>>,
     log: Log,
+    record: Option<Record>,
 }
 
 /// Options of a call by their names, each with its value, which for `prehashed` is empty.
@@ -215,9 +231,13 @@ impl<T: Read + Write> Client<T> {
     /// response's payload. Whether it is about the object that was asked about is the caller's to
     /// look at.
     ///
+    /// The request has eight random bytes as its Unique Batch Item ID. An answer with another one,
+    /// or with none, is that of another call.
+    ///
     /// # Errors
-    /// `GrammarError`: the operation or the version has another name, or an item is none of KMIP's;
-    /// and those of every call.
+    /// - `GrammarError`: the operation or the version has another name, or an item is none of KMIP's
+    /// - `OtherObject`: the answer is that of another call
+    /// - those of every call
     pub fn do_operation(&self, name: &str, version: &str, items: Vec<Item>) -> Result<Item> {
         let payload = Item::new("RequestPayload", items).to_json().to_string();
         let answer = self.operation(name, version, &payload)?;
@@ -251,10 +271,13 @@ impl<T: Read + Write> Client<T> {
     fn make(&self, asked: Asked<'_>) -> Result<Answer> {
         let mut wire = self.wire();
         wire.ends_by(|wire| {
+            let mut item_id = [0; 8];
+            let (plain, asked) = (asked, asked.identified(&mut item_id, self.random)?);
             let request = asked.request(self.credential())?;
             let call = Told::begin(asked.name());
             let response = wire.response_again(call, &request, self.limit, asked.is_changeless());
             let read = response.as_ref().map_or(0, Vec::len);
+            let response = wire.recorded(response, || plain.request(None));
             let answer = response.and_then(|response| asked.read(response));
             wire.tell_end(call, asked.name(), answer.as_ref().err(), (request.len(), read));
             answer
@@ -266,18 +289,25 @@ impl<T: Read + Write> Client<T> {
     pub(crate) fn make_batch(
         &self,
         calls: &[Asked<'_>],
-        message_of: impl FnOnce(&[Vec<u8>]) -> Result<Vec<u8>>,
-        responses_of: impl FnOnce(&[u8]) -> Result<Vec<Option<Vec<u8>>>>,
+        message_of: impl Fn(&[Vec<u8>], Ids) -> Result<Vec<u8>>,
+        responses_of: impl FnOnce(&[u8], Ids) -> Result<Vec<Option<Vec<u8>>>>,
     ) -> Result<Vec<Result<Answer>>> {
         let mut wire = self.wire();
         wire.ends_by(|wire| {
-            let requests = calls.iter().map(|call| call.request(self.credential()));
-            let request = message_of(&requests.collect::<Result<Vec<_>>>()?)?;
+            let mut first_id = [0; 8];
+            (self.random)(&mut first_id).map_err(Error::no_random)?;
+            let ids = Ids::new(first_id);
+            let message = |credential: Option<(&str, &str)>| {
+                let requests = calls.iter().map(|call| call.request(credential));
+                message_of(&requests.collect::<Result<Vec<_>>>()?, ids)
+            };
+            let request = message(self.credential())?;
             let call = Told::begin("batch");
             let is_changeless = calls.iter().all(Asked::is_changeless);
             let response = wire.response_again(call, &request, self.limit, is_changeless);
             let read = response.as_ref().map_or(0, Vec::len);
-            let responses = response.and_then(|response| responses_of(&response));
+            let response = wire.recorded(response, || message(None));
+            let responses = response.and_then(|response| responses_of(&response, ids));
             let name = format!("a batch of {}", calls.len());
             wire.tell_end(call, &name, responses.as_ref().err(), (request.len(), read));
             let answers: Vec<_> = calls.iter().zip(responses?).map(answer_of_batch).collect();
@@ -399,6 +429,20 @@ impl<T: Read + Write> Wire<T> {
         self.response(call, request, limit, &mut is_sent)
     }
 
+    /// The response; the record is told of it, and of the request without its credential and its
+    /// Unique Batch Item ID.
+    fn recorded(
+        &mut self,
+        response: Result<Vec<u8>>,
+        request: impl FnOnce() -> Result<Vec<u8>>,
+    ) -> Result<Vec<u8>> {
+        let response = response?;
+        if let Some(tell) = &mut self.record {
+            tell(&record::line_of(&request()?, &response));
+        }
+        Ok(response)
+    }
+
     fn response(
         &mut self,
         call: Told<'_>,
@@ -442,6 +486,15 @@ pub(crate) enum Asked<'a> {
     Line(&'a str),
     /// Any operation.
     Operation(Operation<'a>),
+}
+
+impl<'a> Asked<'a> {
+    /// The same call: an operation with a Unique Batch Item ID, which no answer to another call has.
+    fn identified(self, item_id: &'a mut [u8], random: Random) -> Result<Self> {
+        let Asked::Operation(call) = self else { return Ok(self) };
+        random(item_id).map_err(Error::no_random)?;
+        Ok(Asked::Operation(call.with_item_id(item_id)))
+    }
 }
 
 impl Asked<'_> {
@@ -583,4 +636,48 @@ fn read(stream: &mut impl Read, into: &mut [u8]) -> Result<()> {
         }
     }
     Ok(())
+}
+
+#[cfg(test)]
+mod tests {
+    use super::*;
+
+    /// A stream that has failed where it is used.
+    struct Unused;
+
+    impl Write for Unused {
+        fn write(&mut self, _: &[u8]) -> io::Result<usize> {
+            panic!("something is sent")
+        }
+
+        fn flush(&mut self) -> io::Result<()> {
+            Ok(())
+        }
+    }
+
+    impl Read for Unused {
+        fn read(&mut self, _: &mut [u8]) -> io::Result<usize> {
+            panic!("something is read")
+        }
+    }
+
+    fn without_random_bytes(call: impl Fn(&Client<Unused>) -> Error) {
+        let mut client = ClientBuilder::new(Unused).build();
+        client.random = |_| Err(io::Error::from_raw_os_error(38));
+        let error = call(&client);
+        let wanted =
+            "RequestWriteError: no random bytes for the Unique Batch Item ID: Function not \
+                      implemented (os error 38); nothing was sent";
+        assert_eq!(error.to_string(), wanted);
+        assert_eq!(error.details().io_error().and_then(io::Error::raw_os_error), Some(38));
+        assert!(error.is_lost() && !client.is_open());
+    }
+
+    #[test]
+    fn without_random_bytes_nothing_is_sent() {
+        without_random_bytes(|client| client.operation("Encrypt", "1.2", NO_ITEMS).unwrap_err());
+        without_random_bytes(|client| {
+            client.batch().call("query", &[]).unwrap().send().unwrap_err()
+        });
+    }
 }

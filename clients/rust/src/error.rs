@@ -170,6 +170,12 @@ impl Error {
         Error::RequestWriteError(Details::of_stream(text, error))
     }
 
+    pub(crate) fn no_random(error: io::Error) -> Error {
+        let text =
+            format!("no random bytes for the Unique Batch Item ID: {error}; nothing was sent");
+        Error::RequestWriteError(Details::of_stream(text, error))
+    }
+
     pub(crate) fn write(error: io::Error) -> Error {
         Error::RequestWriteError(Details::of_stream(error.to_string(), error))
     }

@@ -37,6 +37,7 @@ mod options;
 mod payload;
 mod pem;
 mod pool;
+mod record;
 #[cfg(feature = "openssl")]
 mod tls;
 mod word;

@@ -1,8 +1,11 @@
 //! The proved library: requests and answers as bytes. `metsuwan.h` says what each of its calls
 //! does.
 use std::fmt::{self, Debug, Formatter};
+use std::io::{self, ErrorKind};
 
 extern "C" {
+    // That of the system's library, on which std stands too.
+    fn getrandom(into: *mut u8, count: usize, flags: u32) -> isize;
     fn kmip_request(
         call: *const u8,
         call_len: usize,
@@ -30,6 +33,8 @@ extern "C" {
         name_len: usize,
         version: *const u8,
         version_len: usize,
+        id: *const u8,
+        id_len: usize,
         payload: *const u8,
         payload_len: usize,
         has_credential: bool,
@@ -45,6 +50,8 @@ extern "C" {
         name_len: usize,
         version: *const u8,
         version_len: usize,
+        id: *const u8,
+        id_len: usize,
         payload: *const u8,
         payload_len: usize,
         response: *const u8,
@@ -201,12 +208,40 @@ pub struct Operation<'a> {
     pub version: &'a str,
     /// The request's payload, as JSON.
     pub payload: &'a str,
+    /// Its Unique Batch Item ID; where it has no bytes, none is sent, and none is asked of the
+    /// response.
+    pub item_id: &'a [u8],
 }
 
 impl<'a> Operation<'a> {
     /// A call by these texts.
     pub fn new(name: &'a str, version: &'a str, payload: &'a str) -> Self {
-        Operation { name, version, payload }
+        Operation { name, version, payload, item_id: &[] }
+    }
+
+    /// The same with this Unique Batch Item ID (KMIP 1.0, 6.4). A response with another one, or with
+    /// none, is lost, but for a failure that names no operation and has none.
+    #[must_use]
+    pub fn with_item_id(self, item_id: &'a [u8]) -> Self {
+        Operation { item_id, ..self }
+    }
+}
+
+/// Fills this with random bytes of the system's: at most 256.
+pub(crate) fn random(into: &mut [u8]) -> io::Result<()> {
+    loop {
+        // SAFETY: the pointer is of a slice of this length.
+        let count = unsafe { getrandom(into.as_mut_ptr(), into.len(), 0) };
+        if usize::try_from(count) == Ok(into.len()) {
+            return Ok(());
+        }
+        let error = match count {
+            0.. => io::Error::new(ErrorKind::UnexpectedEof, "they are too few"),
+            _ => io::Error::last_os_error(),
+        };
+        if error.kind() != ErrorKind::Interrupted {
+            return Err(error);
+        }
     }
 }
 
@@ -216,6 +251,7 @@ impl Debug for Operation<'_> {
             .field("name", &self.name)
             .field("version", &self.version)
             .field("payload", &format_args!("of length {}", self.payload.len()))
+            .field("item_id", &self.item_id)
             .finish()
     }
 }
@@ -237,6 +273,8 @@ pub fn operation_request(
             call.name.len(),
             call.version.as_ptr(),
             call.version.len(),
+            call.item_id.as_ptr(),
+            call.item_id.len(),
             call.payload.as_ptr(),
             call.payload.len(),
             credential.is_some(),
@@ -305,6 +343,8 @@ pub fn operation_answer(call: &Operation<'_>, response: &[u8]) -> (Status, Strin
             call.name.len(),
             call.version.as_ptr(),
             call.version.len(),
+            call.item_id.as_ptr(),
+            call.item_id.len(),
             call.payload.as_ptr(),
             call.payload.len(),
             response.as_ptr(),

@@ -247,7 +247,7 @@ fn strict_context() -> std::result::Result<SslContextBuilder, ErrorStack> {
     // The authority is that of the server's certificate, which may be of another one itself.
     context.verify_param_mut().set_flags(X509VerifyFlags::PARTIAL_CHAIN)?;
     context.set_mode(SslMode::AUTO_RETRY);
-    context.set_options(SslOptions::NO_COMPRESSION);
+    context.set_options(SslOptions::NO_COMPRESSION | SslOptions::NO_RENEGOTIATION);
     Ok(context)
 }
 

@@ -5,8 +5,8 @@ mod ttlv;
 use metsuwan::{library, Answer, BatchErrorContinuationOption, Client, ClientBuilder, Error, Item};
 use metsuwan::{Result, Word};
 use script::{Does, Script, Sent};
-use ttlv::{batch_item, bytes, enumeration, failed, failure, identifier, integer, item, response};
-use ttlv::{response_of_items, structure, success, text};
+use ttlv::{batch_item, bytes, enumeration, failed, failure, identifier, integer, item, item_ids};
+use ttlv::{response, response_of_items, structure, success, text};
 use BatchErrorContinuationOption::{Continue, Stop, Undo};
 
 const GET: u32 = 0x0A;
@@ -16,10 +16,9 @@ const ARCHIVE: u32 = 0x15;
 const QUERY: u32 = 0x18;
 const SIGN: u32 = 0x21;
 
-fn client(answers: &[Vec<u8>]) -> (Client<Script>, Sent) {
+fn client(does: &[Does]) -> (Client<Script>, Sent) {
     let sent = Sent::default();
-    let does: Vec<_> = answers.iter().cloned().map(Does::Answer).collect();
-    (ClientBuilder::new(Script::new(&does, &sent)).build(), sent)
+    (ClientBuilder::new(Script::new(does, &sent)).build(), sent)
 }
 
 /// The answers to a batch that activates these objects, where the response is this.
@@ -28,18 +27,26 @@ fn activated(
     on_error: BatchErrorContinuationOption,
     response: &[u8],
 ) -> (Result<Vec<Result<Answer>>>, Client<Script>) {
-    let (client, _) = client(&[response.to_vec()]);
+    let (client, _) = client(&[Does::AnswerBatch(response.to_vec())]);
+    let answers = activate(&client, names, on_error);
+    (answers, client)
+}
+
+fn activate(
+    client: &Client<Script>,
+    names: &[&str],
+    on_error: BatchErrorContinuationOption,
+) -> Result<Vec<Result<Answer>>> {
     let mut batch = client.batch().on_error(on_error);
     for name in names {
         batch.call("activate", &[Word::Text(name)]).unwrap();
     }
     assert_eq!(batch.len(), names.len());
-    let answers = batch.send();
-    (answers, client)
+    batch.send()
 }
 
-fn of_activate(name: u32, object: &str) -> Vec<u8> {
-    batch_item(&[name], ACTIVATE, &success(&[identifier(object)]))
+fn of_activate(place: u32, object: &str) -> Vec<u8> {
+    batch_item(&[place], ACTIVATE, &success(&[identifier(object)]))
 }
 
 /// The bytes of an item: its head and its contents.
@@ -48,19 +55,19 @@ fn split(bytes: &[u8]) -> (&[u8], &[u8]) {
     bytes.split_at(8 + usize::try_from(length).unwrap())
 }
 
-/// The header of a request to these calls, and their batch items with their identifiers, as KMIP
-/// 1.2 has them (7.1 and 7.2), with what the single requests have.
-fn message(lines: &[&str], on_error: u32) -> Vec<u8> {
+/// The header of a request to these calls, and their batch items with these IDs, as KMIP 1.2 has
+/// them (7.1 and 7.2), with what the single requests have.
+fn message(lines: &[&str], ids: &[[u8; 8]], on_error: u32) -> Vec<u8> {
     let single: Vec<_> = lines.iter().map(|line| library::request(line, None).unwrap()).collect();
     let version = structure(0x420069, &[integer(0x42006A, 1), integer(0x42006B, 2)]);
     let count = integer(0x42000D, i32::try_from(lines.len()).unwrap());
     let mut made = structure(0x420077, &[version, enumeration(0x42000E, on_error), count]);
-    for (name, request) in (0_u32..).zip(&single) {
+    for (id, request) in ids.iter().zip(&single) {
         let (_, item) = split(&request[8..]);
         // The operation has 16 bytes, and the payload follows it.
         let (operation, payload) = item[8..].split_at(16);
-        let name = bytes(0x420093, &name.to_be_bytes());
-        made.extend(structure(0x42000F, &[operation.to_vec(), name, payload.to_vec()]));
+        let id = bytes(0x420093, id);
+        made.extend(structure(0x42000F, &[operation.to_vec(), id, payload.to_vec()]));
     }
     item(0x420078, 1, &made)
 }
@@ -79,7 +86,9 @@ fn the_message_has_the_items_of_the_single_requests() {
             batch.call(name, words).unwrap();
         }
         assert!(matches!(batch.send(), Err(Error::ResponseReadError(_))));
-        let wanted = message(&["locate a%20b", "sign k 78", "activate k"], number);
+        let ids = item_ids(&sent.all()[0]);
+        assert!(ids.len() == 3 && ids[0] != ids[1] && ids[0] != ids[2] && ids[1] != ids[2]);
+        let wanted = message(&["locate a%20b", "sign k 78", "activate k"], &ids, number);
         assert_eq!(sent.all(), [wanted]);
     }
 }
@@ -118,7 +127,7 @@ fn each_answer_is_that_of_the_single_call() {
         batch_item(&[0], QUERY, &vendor),
         batch_item(&[2], ACTIVATE, &failed(1, "no such key")),
     ];
-    let (client, _) = client(&[response_of_items(&items)]);
+    let (client, _) = client(&[Does::AnswerBatch(response_of_items(&items))]);
     let mut batch = client.batch();
     batch.call("query", &[]).unwrap();
     batch.call_with("sign", &[Word::Text("k"), Word::Bytes(b"x")], &[("padding", "PSS")]).unwrap();
@@ -133,7 +142,7 @@ fn each_answer_is_that_of_the_single_call() {
         response(ARCHIVE, &[identifier("a")]),
         response(GET, &curve_key()),
     ];
-    let (one, _) = self::client(&single);
+    let (one, _) = self::client(&single.map(Does::Answer));
     assert_eq!(answers[0], one.call("query", &[]));
     assert_eq!(answers[1], one.call("sign", &[Word::Text("k"), Word::Bytes(b"x")]));
     assert_eq!(answers[2], one.call("activate", &[Word::Text("k")]));
@@ -177,13 +186,16 @@ fn an_item_that_is_of_no_call_loses_the_connection() {
     let text = "OtherObject: an item of the response is of no call of the batch";
     let a = of_activate(0, "a");
     let object = success(&[identifier("b")]);
+    let with = |id: Vec<u8>| batch_item(&[], ACTIVATE, &[&[id], &object[..]].concat());
     let others = [
         of_activate(2, "b"),
         of_activate(0, "a"),
         batch_item(&[], ACTIVATE, &object),
         batch_item(&[1, 1], ACTIVATE, &object),
-        batch_item(&[], ACTIVATE, &[&[bytes(0x420093, b"\0\0\0\0\x01")], &object[..]].concat()),
-        batch_item(&[], ACTIVATE, &[&[text_id(1)], &object[..]].concat()),
+        with(bytes(0x420093, b"12345")),
+        with(bytes(0x420093, b"123456789")),
+        with(bytes(0x420093, b"")),
+        with(text_id(1)),
         item(0x42000F, 8, b"bytes"),
     ];
     for other in others {
@@ -198,9 +210,36 @@ fn an_item_that_is_of_no_call_loses_the_connection() {
     }
 }
 
-/// An identifier in the batch that is a text.
-fn text_id(name: u32) -> Vec<u8> {
-    item(0x420093, 7, &name.to_be_bytes())
+/// An ID that is a text, of the call at this place.
+fn text_id(place: u32) -> Vec<u8> {
+    item(0x420093, 7, &place.to_be_bytes())
+}
+
+/// An answer that comes twice is none to the next batch, though that asks the same.
+#[test]
+fn an_answer_to_an_earlier_batch_loses_the_connection() {
+    let answer = response_of_items(&[of_activate(0, "a"), of_activate(1, "b")]);
+    let (client, sent) = client(&[Does::AnswerBatch(answer), Does::AnswerAgain]);
+    let answers = activate(&client, &["a", "b"], Continue).unwrap();
+    assert!(answers.iter().all(Result::is_ok), "{answers:?}");
+    let error = activate(&client, &["a", "b"], Continue).unwrap_err();
+    let text = "OtherObject: an item of the response is of no call of the batch";
+    assert!(error.is_lost() && error.to_string() == text, "{error}");
+    assert!(sent.count() == 2 && !client.is_open());
+}
+
+/// So it is where the same batch is sent again.
+#[test]
+fn a_batch_that_is_sent_again_has_other_ids() {
+    let answer = Does::AnswerBatch(response_of_items(&[of_activate(0, "a")]));
+    let (client, sent) = client(&[answer.clone(), answer]);
+    let mut batch = client.batch();
+    batch.call("activate", &[Word::Text("a")]).unwrap();
+    for _ in 0..2 {
+        assert!(batch.send().unwrap()[0].is_ok());
+    }
+    let ids: Vec<_> = sent.all().iter().map(|it| item_ids(it)).collect();
+    assert!(ids[0].len() == 1 && ids[1].len() == 1 && ids[0] != ids[1], "{ids:?}");
 }
 
 #[test]
@@ -259,7 +298,8 @@ fn an_item_of_another_operation_loses_the_connection() {
 
 #[test]
 fn what_is_no_batch() {
-    let (client, sent) = client(&[response_of_items(&[of_activate(0, "k")])]);
+    let answer = Does::AnswerBatch(response_of_items(&[of_activate(0, "k")]));
+    let (client, sent) = client(&[answer]);
     let is_grammar = |it: Option<Error>, text: &str| match it {
         Some(Error::GrammarError(it)) => assert!(it.text().starts_with(text), "{it}"),
         other => panic!("{other:?}"),

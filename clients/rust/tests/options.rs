@@ -15,7 +15,7 @@ use ttlv::{bytes, enumeration, response, structure, text};
 const GET_ATTRIBUTES: u32 = 0x0B;
 const ENCRYPT: u32 = 0x1F;
 
-/// A stream that keeps what is sent, and gives one answer.
+/// A stream that keeps what is sent, and gives one answer, which has the request's ID.
 struct Recorder {
     sent: Arc<Mutex<Vec<u8>>>,
     answer: Cursor<Vec<u8>>,
@@ -27,6 +27,9 @@ impl Write for Recorder {
     }
 
     fn flush(&mut self) -> io::Result<()> {
+        let answer = self.answer.get_ref();
+        let answer = ttlv::identified(answer, &self.sent.lock().unwrap());
+        self.answer = Cursor::new(answer);
         Ok(())
     }
 }
@@ -221,10 +224,11 @@ fn uses_have_the_bits_of_the_library() {
     }
 }
 
-/// What the operation with this payload sends.
-fn operation_request(name: &str, version: &str, payload: &str) -> Vec<u8> {
-    let call = library::Operation::new(name, version, payload);
-    library::operation_request(&call, None).unwrap()
+/// Whether this is what the operation with this payload sends, with an ID of eight bytes.
+fn is_request(sent: &[u8], name: &str, version: &str, payload: &str) -> bool {
+    let id = ttlv::item_id(sent).unwrap();
+    let call = library::Operation::new(name, version, payload).with_item_id(&id);
+    library::operation_request(&call, None).as_deref() == Ok(sent)
 }
 
 #[test]
@@ -241,9 +245,10 @@ fn certificates_are_registered() {
                 {{"tag":"CertificateValue","type":"ByteString","value":"{hex}"}}]}}]}}"#
         )
     };
-    let plain = operation_request("Register", "1.0", &payload(""));
-    assert!(sent_by(|it| it.register_certificate(der)) == plain);
-    assert!(sent_by(|it| it.register_certificate(pem.as_bytes())) == plain);
+    let registers =
+        |sent: Vec<u8>, attributes| is_request(&sent, "Register", "1.0", &payload(attributes));
+    assert!(registers(sent_by(|it| it.register_certificate(der)), ""));
+    assert!(registers(sent_by(|it| it.register_certificate(pem.as_bytes())), ""));
     let attributes = r#"
         {"tag":"Attribute","value":[
             {"tag":"AttributeName","type":"TextString","value":"Cryptographic Usage Mask"},
@@ -255,8 +260,7 @@ fn certificates_are_registered() {
                 {"tag":"NameType","type":"Enumeration","value":"0x00000001"}]}]}"#;
     let uses = CryptographicUsageMask::Verify | CryptographicUsageMask::CertificateSign;
     let options = Register::default().with_usage(uses).with_name("the \"root\"");
-    let request = operation_request("Register", "1.0", &payload(attributes));
-    assert!(sent_by(|it| it.register_certificate_with(der, options)) == request);
+    assert!(registers(sent_by(|it| it.register_certificate_with(der, options)), attributes));
     let (client, sent) = client(vec![]);
     let error = client.register_certificate(b"none").unwrap_err();
     assert_eq!(error.to_string(), "GrammarError: the certificate is neither DER nor PEM");
@@ -275,7 +279,7 @@ fn any_operation_takes_and_gives_items() {
         {"tag":"CryptographicParameters","value":[
             {"tag":"BlockCipherMode","type":"Enumeration","value":"0x00000001"}]},
         {"tag":"Data","type":"ByteString","value":"01"}]}"#;
-    assert!(*sent.lock().unwrap() == operation_request("Encrypt", "1.2", payload));
+    assert!(is_request(&sent.lock().unwrap(), "Encrypt", "1.2", payload));
     assert_eq!(answer.tag, "ResponsePayload");
     assert_eq!(answer.text_at("UniqueIdentifier").unwrap(), "k");
     assert_eq!(answer.bytes_at("Data").unwrap(), b"\0\xFF");

@@ -158,7 +158,7 @@ fn a_batch_is_made_again_where_all_of_it_changes_nothing() {
     let items = |second| {
         let query = batch_item(&[0], QUERY, &success(&[]));
         let other = batch_item(&[1], second, &success(&[identifier("k")]));
-        Does::Answer(response_of_items(&[query, other]))
+        Does::AnswerBatch(response_of_items(&[query, other]))
     };
     let (client, sent, _) = client(&[&[], &[items(ENCRYPT)]]);
     let mut batch = client.batch();

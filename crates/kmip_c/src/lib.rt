@@ -233,11 +233,12 @@ pub extern "C" fn kmip_value(
 ///
 /// `name` is the operation's name without spaces and hyphens, as `Encrypt` or `RekeyKeyPair`;
 /// `version` is `1.0`, `1.1` or `1.2`; `payload` is the JSON of a structure with the tag
-/// `RequestPayload` (KMIP Additional Message Encodings). With `has_credential` the request carries
-/// this user name and password. After each code nothing is written:
+/// `RequestPayload` (KMIP Additional Message Encodings). `id` is the Unique Batch Item ID of the
+/// request (KMIP 1.0, 6.4), any bytes; where it is empty, the request has none. With `has_credential`
+/// the request carries this user name and password. After each code nothing is written:
 ///
-/// - -2: one of the three is not so, or the payload has an empty Unique Identifier, or the user name
-///   or the password is not UTF-8.
+/// - -2: the name, the version or the payload is not so, or the payload has an empty Unique
+///   Identifier, or the user name or the password is not UTF-8.
 /// - -5: memory ran out.
 /// - -6: the request has no wire form.
 #[unsafe(no_mangle)]
@@ -245,6 +246,7 @@ pub extern "C" fn kmip_operation_request(
     alloc: Global,
     name: &[u8],
     version: &[u8],
+    id: &[u8],
     payload: &[u8],
     has_credential: bool,
     user: &[u8],
@@ -253,7 +255,7 @@ pub extern "C" fn kmip_operation_request(
 ) -> i64
     ensures request { result ≢ memory →
         IsOperationRequested (settings_of has_credential user.now password.now)
-        name.now version.now payload.now into.old result into.new }
+        name.now version.now id.now payload.now into.old result into.new }
     ensures memory { result ≡ memory → into.new ≡ into.old }
 {
     let settings = match settings_of(alloc, has_credential, user, password) {
@@ -261,7 +263,7 @@ pub extern "C" fn kmip_operation_request(
         Ok(None) => return NOT_OF_THE_GRAMMAR,
         Err(OutOfMemory) => return NO_MEMORY,
     };
-    let call = match operation_of(alloc, name, version, payload) {
+    let call = match operation_of(alloc, name, version, id, payload) {
         Ok(Some(call)) => call,
         Ok(None) => return NOT_OF_THE_GRAMMAR,
         Err(OutOfMemory) => return NO_MEMORY,
@@ -280,24 +282,27 @@ pub extern "C" fn kmip_operation_request(
 /// The call is given as to `kmip_operation_request`. The line has the response's payload as
 /// `{"answer":TREE}`, in the JSON of that encoding, or the error. The statuses are those of
 /// `kmip_answer`: after 2 and 5 there is no line, and `length` is 0. But the object that the answer
-/// is about is not compared with that of the call.
+/// is about is not compared with that of the call. Where the call has a Unique Batch Item ID, a
+/// response with another or none is none to the call: the status is 3, unless it is a failure that
+/// names no operation and has no ID.
 #[unsafe(no_mangle)]
 pub extern "C" fn kmip_operation_answer(
     alloc: Global,
     name: &[u8],
     version: &[u8],
+    id: &[u8],
     payload: &[u8],
     response: &[u8],
     into: &mut [u8],
     length: &mut i64,
 ) -> i32
     ensures answer { result ≢ pos 5 →
-        IsOperationAnswered name.now version.now payload.now response.now result into.old length.new
-        into.new }
+        IsOperationAnswered name.now version.now id.now payload.now response.now result into.old
+        length.new into.new }
     ensures memory { result ≡ pos 5 → (length.new ≡ pos 0) × (into.new ≡ into.old) }
 {
     *length = 0;
-    let call = match operation_of(alloc, name, version, payload) {
+    let call = match operation_of(alloc, name, version, id, payload) {
         Ok(Some(call)) => call,
         Ok(None) => return 2,
         Err(OutOfMemory) => return 5,
@@ -314,7 +319,7 @@ pub extern "C" fn kmip_operation_answer(
 
 /// Writes why a name, a version and a payload ask for no call of an operation to `into`, as a text,
 /// and returns how many bytes it has. Where they do not fit, nothing is written. They are given as
-/// to `kmip_operation_request`.
+/// to `kmip_operation_request`; whether they ask for one does not depend on the ID.
 ///
 /// Of a payload it tells the line and the column, the way to the place, as
 /// `value[1].value[0].type`, what was expected there, and what stands there. After each code

@@ -1,8 +1,8 @@
 //! Calls of any operation, given by C as bytes.
-ghost use Rattle.std.specs.Prelude.{IfOk, MatchOption};
+ghost use Rattle.std.specs.Prelude.{◌≡◌, ℕ, List, option_map, IfOk, MatchOption};
 ghost use Rattle.kmip_client.specs.Operation.{TreeRequest};
-ghost use Rattle.kmip_operations.specs.Calls.{request_of};
-ghost use Rattle.kmip_c.specs.Operations.{AsksInBytes, AsksForNone};
+ghost use Rattle.kmip_operations.specs.Calls.{Asks, request_of};
+ghost use Rattle.kmip_c.specs.Operations.{id_of, AsksInBytes, AsksForNone};
 
 use kmip_operations::{
     OperationCall, operation_call, operation_named, payload_refusal, version_written,
@@ -11,17 +11,40 @@ use kmip_wire::{OutOfMemory, Text};
 use std::alloc::Global;
 use std::str;
 
-/// The call that a name, a version and a payload in JSON ask for; `None` where they ask for none,
-/// or one of the three is not UTF-8.
+/// The Unique Batch Item ID of a request: none where it is no bytes.
+fn id_of(id: &[u8]) -> Option<&[u8]>
+    ensures { option_map (λ id. id.now) result ≡ id_of id.now }
+{
+    if id.is_empty() { None } else { Some(id) }
+}
+
+/// The call that a name, a version, a Unique Batch Item ID, where it is not empty, and a payload in
+/// JSON ask for; `None` where they ask for none, whatever the ID.
+fn operation_of_texts(
+    alloc: Global,
+    name: &str,
+    version: &str,
+    id: &[u8],
+    payload: &str,
+) -> Result<Option<OperationCall>, OutOfMemory>
+    ensures { IfOk result
+        (λ call. MatchOption call (AsksForNone name.now version.now payload.now)
+        (λ call. Asks name.now version.now (id_of id.now) payload.now (request_of call))) }
+{
+    operation_call(alloc, name, version, id_of(id), payload)
+}
+
+/// The same of bytes; `None` also where the name, the version or the payload is not UTF-8.
 pub fn operation_of(
     alloc: Global,
     name: &[u8],
     version: &[u8],
+    id: &[u8],
     payload: &[u8],
 ) -> Result<Option<OperationCall>, OutOfMemory>
     ensures { IfOk result
         (λ call. MatchOption call (AsksForNone name.now version.now payload.now)
-        (λ call. AsksInBytes name.now version.now payload.now (request_of call))) }
+        (λ call. AsksInBytes name.now version.now id.now payload.now (request_of call))) }
 {
     let Ok(name) = str::from_utf8(name) else {
         return Ok(None);
@@ -32,7 +55,7 @@ pub fn operation_of(
     let Ok(payload) = str::from_utf8(payload) else {
         return Ok(None);
     };
-    operation_call(alloc, name, version, payload)
+    operation_of_texts(alloc, name, version, id, payload)
 }
 
 /// What is said of a name, a version and a payload that ask for no call.
@@ -73,10 +96,12 @@ pub fn operation_refusal(
     payload: &[u8],
 ) -> Result<Option<Text>, OutOfMemory>
     ensures { IfOk result (λ why. MatchOption why
-        ((request : TreeRequest) × AsksInBytes name.now version.now payload.now request)
+        ((id : List ℕ) → (request : TreeRequest) ×
+        AsksInBytes name.now version.now id payload.now request)
         (λ _. AsksForNone name.now version.now payload.now)) }
 {
-    match operation_of(alloc, name, version, payload)? {
+    let found = operation_of(alloc, name, version, &[], payload)?;
+    match found {
         Some(_call) => Ok(None),
         None => Ok(Some(why_none(alloc, name, version, payload)?)),
     }

@@ -4,6 +4,7 @@ use crate::{kmip_operation_answer, kmip_operation_refusal, kmip_operation_reques
 use kmip_test_messages::message;
 use kmip_wire::Text;
 use std::alloc::Global;
+use std::process::Abort;
 use std::test::Fail;
 
 /// What a caller gives for a call.
@@ -11,6 +12,7 @@ use std::test::Fail;
 struct Words {
     name: &'static [u8],
     version: &'static [u8],
+    id: &'static [u8],
     payload: &'static [u8],
 }
 
@@ -28,6 +30,7 @@ fn request(
         alloc,
         words.name,
         words.version,
+        words.id,
         words.payload,
         has_credential,
         user,
@@ -47,6 +50,7 @@ fn answer_to(
         alloc,
         words.name,
         words.version,
+        words.id,
         words.payload,
         response,
         into,
@@ -58,6 +62,7 @@ fn answer_to(
 const DECRYPT: Words = Words {
     name: b"Decrypt",
     version: b"1.2",
+    id: b"",
     payload: b"{\"tag\":\"RequestPayload\",\"value\":[{\"tag\":\"UniqueIdentifier\",\"type\":\"TextString\",\"value\":\"k1\"},{\"tag\":\"Data\",\"type\":\"ByteString\",\"value\":\"00FF\"}]}",
 };
 
@@ -92,6 +97,7 @@ fn a_credential_is_sent_where_one_is_given(rt: HostRuntime) -> Result<(), Fail> 
 const NO_FORM: Words = Words {
     name: b"Encrypt",
     version: b"1.2",
+    id: b"",
     payload: b"{\"tag\":\"RequestPayload\",\"value\":[{\"tag\":\"Modulus\",\"type\":\"BigInteger\",\"value\":\"0x01\"}]}",
 };
 
@@ -100,31 +106,37 @@ const NO_CALLS: &[Words] = &[
     Words {
         name: b"decrypt",
         version: b"1.2",
+        id: b"",
         payload: b"{\"tag\":\"RequestPayload\",\"value\":[]}",
     },
     Words {
         name: b"Decrypt",
         version: b"1.4",
+        id: b"",
         payload: b"{\"tag\":\"RequestPayload\",\"value\":[]}",
     },
     Words {
         name: b"Decrypt",
         version: b"1.2",
+        id: b"",
         payload: b"{\"tag\":\"ResponsePayload\",\"value\":[]}",
     },
     Words {
         name: b"Decrypt\xFF",
         version: b"1.2",
+        id: b"",
         payload: b"{\"tag\":\"RequestPayload\",\"value\":[]}",
     },
     Words {
         name: b"Decrypt",
         version: b"1.2\xFF",
+        id: b"",
         payload: b"{\"tag\":\"RequestPayload\",\"value\":[]}",
     },
     Words {
         name: b"Decrypt",
         version: b"1.2",
+        id: b"",
         payload: b"{\"tag\":\"RequestPayload\",\"value\":[{\"tag\":\"UniqueIdentifier\",\"type\":\"TextString\",\"value\":\"\xFF\"}]}",
     },
 ];
@@ -164,7 +176,9 @@ fn nested(alloc: Global, levels: u32) -> Result<Text, Fail> {
 fn request_nested(alloc: Global, levels: u32, into: &mut [u8]) -> Result<i64, Fail> {
     let json = nested(alloc, levels)?;
     let payload = json.as_str().as_bytes();
-    Ok(kmip_operation_request(alloc, b"Encrypt", b"1.2", payload, false, b"", b"", into))
+    Ok(kmip_operation_request(
+        alloc, b"Encrypt", b"1.2", b"", payload, false, b"", b"", into,
+    ))
 }
 
 #[test]
@@ -213,19 +227,76 @@ const ANSWERS: &[AnswerRow] = &[
     },
 ];
 
-#[test]
-fn responses_are_answered(rt: HostRuntime) -> Result<(), Fail> {
-    let alloc: Global = rt.alloc();
-    for row in ANSWERS {
+/// The responses of these rows are answered as they say.
+fn are_answered(
+    rt: &impl Abort,
+    alloc: Global,
+    words: Words,
+    rows: &[AnswerRow],
+) -> Result<(), Fail> {
+    for row in rows {
         let response = message(alloc, row.response)?;
         let mut line = [7u8; 300];
         let mut length = 0;
-        let status = answer_to(alloc, DECRYPT, &response, &mut line, &mut length);
+        let status = answer_to(alloc, words, &response, &mut line, &mut length);
         assert!(rt; status == row.status, "{}", row.response);
         assert!(rt; length == row.line.len() as i64, "{}", row.response);
         assert!(rt; line.starts_with(row.line.as_bytes()), "{}", row.response);
     }
     Ok(())
+}
+
+#[test]
+fn responses_are_answered(rt: HostRuntime) -> Result<(), Fail> {
+    are_answered(&rt, rt.alloc(), DECRYPT, ANSWERS)
+}
+
+/// The same with a Unique Batch Item ID (KMIP 1.0, 6.4).
+const IDENTIFIED: Words = Words {
+    id: b"\x01\x02\xA0",
+    ..DECRYPT
+};
+
+#[test]
+fn an_id_stands_in_the_request(rt: HostRuntime) -> Result<(), Fail> {
+    let alloc: Global = rt.alloc();
+    let expected = message(
+        alloc,
+        "78{77{69{6A i1,6B i2},0D i1},0F{5C e20,93 x0102A0,79{94 \"k1\",C2 x00FF}}}",
+    )?;
+    let mut into = [7u8; 300];
+    let length = request(alloc, IDENTIFIED, false, b"", b"", &mut into);
+    assert!(rt; length == expected.len() as i64);
+    assert!(rt; into.starts_with(&expected));
+    Ok(())
+}
+
+const IDENTIFIED_ANSWERS: &[AnswerRow] = &[
+    AnswerRow {
+        response: "RES2(5C e20,93 x0102A0,7F e0,7C{94 \"k1\",C2 xDEADBEEF})",
+        status: 0,
+        line: "{\"answer\":{\"tag\":\"ResponsePayload\",\"value\":[{\"tag\":\"UniqueIdentifier\",\"type\":\"TextString\",\"value\":\"k1\"},{\"tag\":\"Data\",\"type\":\"ByteString\",\"value\":\"DEADBEEF\"}]}}\n",
+    },
+    AnswerRow {
+        response: "RES2(5C e20,93 x0102A1,7F e0,7C{C2 xDEADBEEF})",
+        status: 3,
+        line: "{\"error\":\"InternalError\",\"text\":\"Response does not have the request's Unique Batch Item ID\",\"response\":\"7B[7A[69[6Ai6Bi]92d0Di]0F[5Ce20:93x7Fe0:7C[C2x]]]\"}\n",
+    },
+    AnswerRow {
+        response: "OK2(20, C2 xDEADBEEF)",
+        status: 3,
+        line: "{\"error\":\"InternalError\",\"text\":\"Response does not have the request's Unique Batch Item ID\",\"response\":\"7B[7A[69[6Ai6Bi]92d0Di]0F[5Ce20:7Fe0:7C[C2x]]]\"}\n",
+    },
+    AnswerRow {
+        response: "RES2(7F e1,7E e12,7D \"no such mechanism\")",
+        status: 1,
+        line: "{\"error\":\"ServerError\",\"text\":\"Operation Decrypt failed for reason 18: no such mechanism\",\"reason\":{\"number\":18},\"message\":\"no such mechanism\"}\n",
+    },
+];
+
+#[test]
+fn an_answer_has_the_id_of_its_request(rt: HostRuntime) -> Result<(), Fail> {
+    are_answered(&rt, rt.alloc(), IDENTIFIED, IDENTIFIED_ANSWERS)
 }
 
 /// Names, versions and payloads, with what is said of each.
@@ -234,6 +305,7 @@ const REFUSED: &[(Words, &[u8])] = &[
         Words {
             name: b"Decrypted",
             version: b"1.2",
+            id: b"",
             payload: b"{}",
         },
         b"KMIP 1.2 has no operation of this name",
@@ -242,6 +314,7 @@ const REFUSED: &[(Words, &[u8])] = &[
         Words {
             name: b"Decrypt",
             version: b"1.2",
+            id: b"",
             payload: b"{\"tag\":\"RequestPayload\",\n\"value\":[{\"tag\":\"Date\",\"value\":[]}]}",
         },
         b"the payload: line 2, column 17, value[0].tag: expected the name of a tag, or 0x and six hex digits, found \"Date\"",
@@ -250,6 +323,7 @@ const REFUSED: &[(Words, &[u8])] = &[
         Words {
             name: b"Decrypt",
             version: b"1.2",
+            id: b"",
             payload: b"{\"tag\":\"RequestPayload\",\"value\":[{\"tag\":\"UniqueIdentifier\",\"type\":\"TextString\",\"value\":\"\"}]}",
         },
         b"the payload: a UniqueIdentifier in it is empty",

@@ -4,10 +4,10 @@ use Rattle.std.specs.Option.{is_some}
 use Rattle.std.proofs.Math.Seq.{take-length}
 use Rattle.kmip_client.specs.Message.{Message, message_at}
 use Rattle.kmip_wire.specs.Tree.{Tree}
-use Rattle.kmip_client.specs.Operation.{operation_bytes}
+use Rattle.kmip_client.specs.Operation.{TreeRequest, operation_bytes}
 use Rattle.kmip_client.specs.WholeMessage.{whole_bytes, whole_answer}
 use Rattle.kmip_client.specs.Outcome.{answer_by, read_answer}
-use Rattle.kmip_client.specs.Untyped.{untyped_answer}
+use Rattle.kmip_client.specs.Untyped.{identified_answer}
 use Rattle.kmip_client.specs.declared.error.Error.{Error}
 use Rattle.kmip_words.specs.Calls.{typed_call}
 use Rattle.kmip_words.specs.Exchange.{Settings, request_asked, operation_asked}
@@ -19,7 +19,7 @@ use Rattle.kmip_operations.specs.declared.call.OperationCall.{OperationCall}
 use Rattle.kmip_operations.proofs.Asked.{one_call, one_structure}
 use Rattle.kmip_tags.specs.Tags.{REQUEST_MESSAGE}
 use Rattle.kmip_call.specs.Wire.{taken_at, IsOneAtMost}
-use Rattle.kmip_call.specs.TreeWords.{TreeText, an_operation, a_message, tree_words}
+use Rattle.kmip_call.specs.TreeWords.{TreeText, an_operation, a_message, tree_words, item_id}
 use Rattle.kmip_call.specs.Exchange.{Errand, typed_errand, operation_errand, message_errand}
 use Rattle.kmip_call.specs.Asked.{is_allowed, call_for, AsksTree, AsksFor, tree, typed, AsksForNone, errand_of, Requests}
 use Rattle.kmip_call.specs.declared.command.Order.{Order}
@@ -56,16 +56,16 @@ errand_reading settings (found.Typed call) = record {
       (ending_about call) rest bytes is one;
 }
 errand_reading settings (found.Operation call) = record {
-  line = λ rest bytes is one. same_by (untyped_answer call.operation) settings.limit
+  line = λ rest bytes is one. same_by (identified_answer call.operation call.id) settings.limit
       (λ answer first. tree_line (answer_to (Some call.operation) answer first) first)
       rest bytes is one;
-  ending = λ rest bytes is one. same_by (untyped_answer call.operation) settings.limit
-      (tree_ending (Some call.operation)) rest bytes is one;
+  ending = λ rest bytes is one. same_by (identified_answer call.operation call.id) settings.limit
+      (tree_ending (Some call.operation) call.id) rest bytes is one;
 }
 errand_reading settings (found.Message message) = record {
   line = λ rest bytes is one. same_by whole_answer settings.limit
       (λ answer first. tree_line (answer_to None answer first) first) rest bytes is one;
-  ending = λ rest bytes is one. same_by whole_answer settings.limit (tree_ending None)
+  ending = λ rest bytes is one. same_by whole_answer settings.limit (tree_ending None None)
       rest bytes is one;
 }
 
@@ -82,10 +82,17 @@ same_text : (order : Order) (a b : TreeText) → tree_words order.words ≡ Some
     → tree_words order.words ≡ Some b → a ≡ b
 same_text order a b first second = cc
 
+same_id : (given a b : Option (List ℕ)) → item_id given ≡ Some a → item_id given ≡ Some b → a ≡ b
+same_id given a b first second = cc
+
 tree_once : (settings : Settings) (text : TreeText) (a b : Errand) → AsksTree settings text a
     → AsksTree settings text b → a ≡ b
-tree_once settings (an_operation name version payload) a b (request, asks, by) (wanted, asked, done) =
-    by ∙ ap (operation_errand settings) (one_call name version payload request wanted asks asked) ∙ sym done
+tree_once settings (an_operation name version hex payload) a b (request, given, asks, by)
+    (wanted, found_is, asked, done) =
+    let P : Option (List ℕ) → Type 0 = λ i. Asks name version i payload wanted in
+    by ∙ ap (operation_errand settings)
+    (one_call name version request.id payload request wanted asks
+    (subst P (same_id hex wanted.id request.id found_is given) asked)) ∙ sym done
 tree_once settings (a_message text) a b (message, is, by) (wanted, are, done) =
     by ∙ ap (message_errand settings) (one_structure REQUEST_MESSAGE text message wanted is are) ∙ sym done
 
@@ -124,17 +131,64 @@ none_in : (file : Option (List ℕ)) → is_some file ≡ false → file ≡ Non
 none_in None e = refl
 none_in (Some f) e = absurd (cc)
 
-pub operation_asks : (order : Order) (name version payload : List ℕ) (call : OperationCall)
-    (request : Option (List ℕ)) → is_some order.file ≡ false →
-    tree_words order.words ≡ Some (an_operation name version payload) →
-    Asks name version payload (request_of call)
+pub operation_asks : (order : Order) (name version : List ℕ) (hex : Option (List ℕ)) (payload : List ℕ)
+    (id : Option (List ℕ)) (call : OperationCall) (request : Option (List ℕ))
+    → is_some order.file ≡ false →
+    tree_words order.words ≡ Some (an_operation name version hex payload) →
+    item_id hex ≡ Some id → Asks name version id payload (request_of call)
     → request ≡ operation_bytes (request_of call) order.settings.credential
     → Requests order (found.Operation call) request
-operation_asks order name version payload call request unkept is asks message = record {
-  asks = tree (none_in order.file unkept) (an_operation name version payload) is
-      (request_of call, asks, refl);
-  message = message;
-}
+operation_asks order name version hex payload id call request unkept is given asks message =
+    let P : Option (List ℕ) → Type 0 = λ i. Asks name version i payload (request_of call) in
+    record {
+      asks = tree (none_in order.file unkept) (an_operation name version hex payload) is (
+        request_of call,
+        given ∙ ap (λ (i : Option (List ℕ)). Some i) asks.id_is,
+        subst P asks.id_is asks,
+        refl,
+      );
+      message = message;
+    }
+
+none_of_words : (settings : Settings) (name version : List ℕ) (hex : Option (List ℕ)) (payload : List ℕ)
+    (id : Option (List ℕ)) (errand : Errand) → item_id hex ≡ Some id
+    → ((request : TreeRequest) → Asks name version id payload request → ⊥)
+    → AsksTree settings (an_operation name version hex payload) errand → ⊥
+none_of_words settings name version hex payload id errand given none (request, found_is, asks, by) =
+    let P : Option (List ℕ) → Type 0 = λ i. Asks name version i payload request in
+    none request (subst P (same_id hex request.id id found_is given) asks)
+
+-- words of an operation ask for none where its name, its version or its payload is none
+pub none_with_id : (order : Order) (name version : List ℕ) (hex : Option (List ℕ)) (payload : List ℕ)
+    (id : Option (List ℕ)) → tree_words order.words ≡ Some (an_operation name version hex payload) →
+    item_id hex ≡ Some id → ((request : TreeRequest) → Asks name version id payload request → ⊥)
+    → AsksForNone order
+none_with_id order name version hex payload id is given none errand (tree unkept other are asks) =
+    let P : TreeText → Type 0 = λ t. AsksTree order.settings t errand in
+    none_of_words order.settings name version hex payload id errand given none
+    (subst P (same_text order other (an_operation name version hex payload) are is) asks)
+none_with_id order name version hex payload id is given none errand (typed plain call found_is by) =
+    both_words order (an_operation name version hex payload) is plain
+
+id_clash : {G : Type 0} (hex id : Option (List ℕ)) → item_id hex ≡ Some id → item_id hex ≡ None → G
+id_clash hex id some none = absurd (cc)
+
+none_of_hex : (settings : Settings) (name version : List ℕ) (hex : Option (List ℕ)) (payload : List ℕ)
+    (errand : Errand) → item_id hex ≡ None
+    → AsksTree settings (an_operation name version hex payload) errand → ⊥
+none_of_hex settings name version hex payload errand none (request, found_is, asks, by) =
+    id_clash hex request.id found_is none
+
+-- and where its Unique Batch Item ID is none
+pub none_without_id : (order : Order) (name version : List ℕ) (hex : Option (List ℕ)) (payload : List ℕ)
+    → tree_words order.words ≡ Some (an_operation name version hex payload) → item_id hex ≡ None
+    → AsksForNone order
+none_without_id order name version hex payload is none errand (tree unkept other are asks) =
+    let P : TreeText → Type 0 = λ t. AsksTree order.settings t errand in
+    none_of_hex order.settings name version hex payload errand none
+    (subst P (same_text order other (an_operation name version hex payload) are is) asks)
+none_without_id order name version hex payload is none errand (typed plain call found_is by) =
+    both_words order (an_operation name version hex payload) is plain
 
 pub message_asks : (order : Order) (text : List ℕ) (whole : Tree) (request : Option (List ℕ))
     → is_some order.file ≡ false → tree_words order.words ≡ Some (a_message text) →

@@ -4,6 +4,7 @@ use Rattle.kmip_client.specs.Client.{credential_for}
 use Rattle.kmip_types.specs.declared.auth.CredentialType.{CredentialType}
 use Rattle.kmip_words.specs.Values.{number_of}
 use Rattle.kmip_words.specs.Options.{option_given, given_after}
+use Rattle.kmip_call.specs.TreeWords.{given_or, payload_words, optioned_words}
 use Rattle.kmip_call.specs.Commands.{first_of, limit_of, default_limit, order_with, order_limited, order_of}
 
 pub order_of_is : (environment : Option (List ℕ)) (words : List (List ℕ))
@@ -35,3 +36,16 @@ pub with_no_limit : (credential : Option CredentialType) (limit file : Option (L
     (words : List (List ℕ)) → limit ≡ None →
     order_limited credential limit file words ≡ Some (order_with credential default_limit file words)
 with_no_limit credential limit file words is = rw is refl
+
+-- the options of an operation
+pub optioned_words_are : (name : List ℕ) (words : List (List ℕ)) (first hex version : Option (List ℕ))
+    (after_first after_hex rest : List (List ℕ)) →
+    first ≡ (option_given (codes "version=") words).value
+    → after_first ≡ (option_given (codes "version=") words).rest →
+    hex ≡ (option_given (codes "item-id=") after_first).value
+    → after_hex ≡ (option_given (codes "item-id=") after_first).rest →
+    version ≡ (given_or first (codes "version=") after_hex).value
+    → rest ≡ (given_or first (codes "version=") after_hex).rest →
+    payload_words name version hex rest ≡ optioned_words name words
+optioned_words_are name words first hex version after_first after_hex rest f fr h hr v vr =
+    rw (vr, v, hr, h, fr, f) refl

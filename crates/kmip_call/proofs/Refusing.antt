@@ -8,7 +8,7 @@ use Rattle.kmip_words.specs.JsonLines.{IsGrammarLine}
 use Rattle.kmip_words.proofs.JsonLines.{error_line_by}
 use Rattle.kmip_words.specs.Calls.{typed_call}
 use Rattle.kmip_operations.specs.Calls.{operation_named, version_written}
-use Rattle.kmip_call.specs.TreeWords.{TreeText, an_operation, a_message, tree_words}
+use Rattle.kmip_call.specs.TreeWords.{TreeText, an_operation, a_message, tree_words, item_id}
 use Rattle.kmip_call.specs.declared.command.Order.{Order}
 use Rattle.kmip_call.specs.declared.status.Status.TheVariants.{NoCall, OutOfMemory}
 use Rattle.kmip_call.specs.Refusal.{IsWrongBy, IsWrongTree, IsNoTree, IsWhyNotBy, IsWhyNot, IsRefusal, IsTold, grammar_line, not_typed}
@@ -18,14 +18,15 @@ use Rattle.kmip_call.proofs.Exchanges.{append_none}
 none_written : (sink : SinkState) (text : List ℕ) → WrotePart sink sink text
 none_written sink text = (0, omega arith, append_none sink.sent)
 
-wrong_by : (no_name no_version : Bool) → (text : List ℕ) × IsWrongBy no_name no_version text
-wrong_by true no_version = (codes "KMIP 1.2 has no operation of this name", refl)
-wrong_by false true = (codes "version= takes 1.0, 1.1 or 1.2", refl)
-wrong_by false false = (codes "the payload: " ++ [], ([], refl))
+wrong_by : (no_name no_version no_id : Bool) → (text : List ℕ) × IsWrongBy no_name no_version no_id text
+wrong_by true no_version no_id = (codes "KMIP 1.2 has no operation of this name", refl)
+wrong_by false true no_id = (codes "version= takes 1.0, 1.1 or 1.2", refl)
+wrong_by false false true = (codes "item-id= takes an even number of hex digits, at least two", refl)
+wrong_by false false false = (codes "the payload: " ++ [], ([], refl))
 
 wrong_tree : (words : TreeText) → (text : List ℕ) × IsWrongTree words text
-wrong_tree (an_operation name version payload) =
-    wrong_by (is_none (operation_named name)) (is_none (version_written version))
+wrong_tree (an_operation name version hex payload) =
+    wrong_by (is_none (operation_named name)) (is_none (version_written version)) (is_none (item_id hex))
 wrong_tree (a_message message) = (codes "the message: " ++ [], ([], refl))
 
 no_tree : (file : Option (List ℕ)) (words : TreeText) → (text : List ℕ) × IsNoTree file words text

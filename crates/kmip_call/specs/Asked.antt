@@ -7,7 +7,7 @@ use Rattle.kmip_words.specs.Calls.{typed_call}
 use Rattle.kmip_words.specs.declared.call.Call.{Call}
 use Rattle.kmip_operations.specs.Calls.{Asks, IsMessageText, request_of}
 use Rattle.kmip_call.specs.Record.{is_recordable, recorded_words}
-use Rattle.kmip_call.specs.TreeWords.{TreeText, an_operation, a_message, tree_words}
+use Rattle.kmip_call.specs.TreeWords.{TreeText, an_operation, a_message, tree_words, item_id}
 use Rattle.kmip_call.specs.Exchange.{Errand, typed_errand, operation_errand, message_errand}
 use Rattle.kmip_call.specs.declared.command.Order.{Order}
 use Rattle.kmip_call.specs.declared.requested.Asked.{Asked}
@@ -25,9 +25,9 @@ call_for order = if is_allowed order.file order.words then typed_call order.word
 
 -- These words, whose payload or message is in JSON, ask for this errand.
 abbrev pub AsksTree : Settings → TreeText → Errand → Type 0
-AsksTree settings (an_operation name version payload) errand =
-    (request : TreeRequest) × Asks name version payload request
-    × (errand ≡ operation_errand settings request)
+AsksTree settings (an_operation name version hex payload) errand =
+    (request : TreeRequest) × (item_id hex ≡ Some request.id)
+    × Asks name version request.id payload request × (errand ≡ operation_errand settings request)
 AsksTree settings (a_message text) errand =
     (message : Tree) × IsMessageText text message × (errand ≡ message_errand settings message)
 

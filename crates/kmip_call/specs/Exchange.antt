@@ -60,9 +60,11 @@ pub record Takes (limit : Option ℕ) (errand : Errand) (s0 s1 : SourceState) (b
 abbrev pub failure_line : Error → List ℕ
 failure_line error = error_line error Json
 
--- what is said where the sink or the source failed: that it did, and why, where the system tells
-abbrev pub IsLinkFailed : List ℕ → Type 0
-IsLinkFailed text = (why : List ℕ) × (text ≡ codes "link failed" ++ why)
+-- what is said where the sink or the source failed: that it did, and the reason, where the system
+-- tells one
+pub data IsLinkFailed (text : List ℕ) : Type 0 where
+  bare : text ≡ codes "link failed" → IsLinkFailed text
+  with_reason : (reason : List ℕ) → text ≡ codes "link failed: " ++ reason → IsLinkFailed text
 
 -- A call took its sink and its source from the states `0` to the states `1`, ended so and has this
 -- line for its answer. What is said of bytes holds where contracts know those of the sink, or of

@@ -9,7 +9,7 @@ use Rattle.kmip_words.specs.Calls.{typed_call}
 use Rattle.kmip_words.specs.Complaints.{refusal as said_of}
 use Rattle.kmip_words.specs.declared.call.Call.{Call}
 use Rattle.kmip_operations.specs.Calls.{operation_named, version_written}
-use Rattle.kmip_call.specs.TreeWords.{TreeText, an_operation, a_message, tree_words}
+use Rattle.kmip_call.specs.TreeWords.{TreeText, an_operation, a_message, tree_words, item_id}
 use Rattle.kmip_call.specs.declared.command.Order.{Order}
 
 -- the line of JSON of a `GrammarError` with this text
@@ -27,20 +27,24 @@ not_typed None words = said_of words
 abbrev pub IsNotRead : List ℕ → List ℕ → Type 0
 IsNotRead what text = (why : List ℕ) × (text ≡ what ++ why)
 
--- where there is no operation of the name, where the version is none, and else
-abbrev pub IsWrongBy : Bool → Bool → List ℕ → Type 0
-IsWrongBy true no_version text = text ≡ codes "KMIP 1.2 has no operation of this name"
-IsWrongBy false true text = text ≡ codes "version= takes 1.0, 1.1 or 1.2"
-IsWrongBy false false text = IsNotRead (codes "the payload: ") text
+-- where there is no operation of the name, where the version is none, where the Unique Batch Item
+-- ID is none, and else
+abbrev pub IsWrongBy : Bool → Bool → Bool → List ℕ → Type 0
+IsWrongBy true no_version no_id text = text ≡ codes "KMIP 1.2 has no operation of this name"
+IsWrongBy false true no_id text = text ≡ codes "version= takes 1.0, 1.1 or 1.2"
+IsWrongBy false false true text =
+    text ≡ codes "item-id= takes an even number of hex digits, at least two"
+IsWrongBy false false false text = IsNotRead (codes "the payload: ") text
 
 -- which of the words of a call of an operation is not what it should be
-abbrev pub IsWrongOperation : List ℕ → List ℕ → List ℕ → Type 0
-IsWrongOperation name version text =
-    IsWrongBy (is_none (operation_named name)) (is_none (version_written version)) text
+abbrev pub IsWrongOperation : List ℕ → List ℕ → Option (List ℕ) → List ℕ → Type 0
+IsWrongOperation name version hex text =
+    IsWrongBy (is_none (operation_named name)) (is_none (version_written version))
+    (is_none (item_id hex)) text
 
 -- and of one whose payload or message is in JSON
 abbrev pub IsWrongTree : TreeText → List ℕ → Type 0
-IsWrongTree (an_operation name version payload) text = IsWrongOperation name version text
+IsWrongTree (an_operation name version hex payload) text = IsWrongOperation name version hex text
 IsWrongTree (a_message message) text = IsNotRead (codes "the message: ") text
 
 -- why none such is made: it is to be recorded, or one of the words is wrong

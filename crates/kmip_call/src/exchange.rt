@@ -119,12 +119,14 @@ fn failed(alloc: Global, error: Error, response: Option<Vec<u8>>) -> Result<Call
     })
 }
 
-/// That the sink or the source failed, and why, where the system tells.
+/// That the sink or the source failed, and the reason, where the system tells one.
 fn link_failed(alloc: Global, last: &LastError) -> Result<Text, OutOfMemory>
     ensures { IfOk result (λ text. IsLinkFailed text) }
 {
-    let why = last.told(alloc)?;
-    Ok(joined(alloc, "link failed", why.as_str())?)
+    match last.reason(alloc)? {
+        Some(reason) => Ok(joined(alloc, "link failed: ", reason.as_str())?),
+        None => Ok(Text::of(alloc, "link failed")?),
+    }
 }
 
 /// Makes a call: sends its request, where it has a wire form, and reads at most one message. Where

@@ -38,8 +38,10 @@ with names are
 /// What stands after them.
 const BACK: &str = "
 `operation` calls any operation of KMIP by its NAME, as Encrypt; version= is 1.2
-where none is given. PAYLOAD is the JSON of the request's payload, as
-{\"tag\":\"RequestPayload\",\"value\":[..]}; the answer is that of the response's
+where none is given. item-id= is the Unique Batch Item ID that the request has,
+in hex: then an answer with another is lost, and one with none too, unless it is
+a failure that names no operation. PAYLOAD is the JSON of the request's payload,
+as {\"tag\":\"RequestPayload\",\"value\":[..]}; the answer is that of the response's
 payload. `message` sends a whole message, whose JSON MESSAGE is, as it stands;
 the answer is the whole response. Neither can be recorded.
 

@@ -19,13 +19,13 @@ impl LastError {
         }
     }
 
-    /// What stands after the text of a failure: `: ` and the error; nothing where there is none.
-    pub fn told(&self, alloc: Global) -> Result<Text, OutOfMemory> {
+    /// The error, in the system's words; `None` where there is none.
+    pub fn reason(&self, alloc: Global) -> Result<Option<Text>, OutOfMemory> {
         let Some(number) = self.number.get() else {
-            return Ok(Text::new(alloc));
+            return Ok(None);
         };
         let error = io::Error::from_raw_os_error(number);
-        Ok(Text::of_string(format!(in alloc; ": {error}")?))
+        Ok(Some(Text::of_string(format!(in alloc; "{error}")?)))
     }
 
     /// Keeps the error of what a stream returned, where it is one of the system's.

@@ -1,5 +1,5 @@
 //! Why no call is made, as a line of JSON.
-ghost use Rattle.std.specs.Prelude.{◌≡◌, ◌++◌, ◌⊎◌, ℕ, List, codes, IfOk, IsTrue};
+ghost use Rattle.std.specs.Prelude.{◌≡◌, ◌++◌, ◌⊎◌, ℕ, List, codes, option_map, IfOk, IsTrue};
 ghost use Rattle.kmip_words.specs.Streams.{WrotePart};
 ghost use Rattle.kmip_link.specs.State.{FaultCountRose};
 ghost use Rattle.kmip_words.specs.Calls.{typed_call};
@@ -12,7 +12,7 @@ ghost use Rattle.kmip_words.specs.JsonLines.{IsGrammarLine};
 
 use crate::command::Order;
 use crate::status::Status;
-use crate::tree_words::{TreeWords, tree_words};
+use crate::tree_words::{TreeWords, item_id, tree_words};
 use kmip_link::{LinkError, Sink};
 use kmip_operations::{message_refusal, operation_named, payload_refusal, version_written};
 use kmip_shape::ShowItem;
@@ -31,6 +31,9 @@ pub const CLOSED_STREAM: &str = "standard input, output or error is closed";
 
 /// What is said where a word, or the password of the environment, is not UTF-8.
 pub const NOT_UTF8: &str = "a word or KMIP_PASSWORD is not UTF-8";
+
+/// What is said where `item-id=HEX` has no Unique Batch Item ID.
+const WRONG_ID: &str = "item-id= takes an even number of hex digits, at least two";
 
 /// What is said of words that a record cannot hold.
 const NOT_RECORDED: &str = "a record cannot hold these words";
@@ -69,15 +72,20 @@ fn wrong_operation(
     alloc: Global,
     name: &str,
     version: &str,
+    hex: Option<&str>,
     payload: &str,
 ) -> Result<Text, OutOfMemory>
-    ensures { IfOk result (λ text. IsWrongOperation name.now version.now text) }
+    ensures { IfOk result (λ text. IsWrongOperation name.now version.now
+        (option_map (λ text. text.now) hex.entry) text) }
 {
     if operation_named(name).is_none() {
         return Ok(Text::of(alloc, "KMIP 1.2 has no operation of this name")?);
     }
     if version_written(version).is_none() {
         return Ok(Text::of(alloc, "version= takes 1.0, 1.1 or 1.2")?);
+    }
+    if item_id(alloc, hex)?.is_none() {
+        return Ok(Text::of(alloc, WRONG_ID)?);
     }
     let why = payload_refusal(alloc, payload)?;
     Ok(not_read(alloc, "the payload: ", why)?)
@@ -99,8 +107,9 @@ fn wrong_tree(alloc: Global, words: TreeWords<'_>) -> Result<Text, OutOfMemory>
         TreeWords::Operation {
             name,
             version,
+            hex,
             payload,
-        } => Ok(wrong_operation(alloc, name, version, payload)?),
+        } => Ok(wrong_operation(alloc, name, version, hex, payload)?),
         TreeWords::Message { message } => Ok(wrong_message(alloc, message)?),
     }
 }

@@ -1,7 +1,8 @@
 //! What an order asks for, and its request.
-ghost use Rattle.std.specs.Prelude.{◌≡◌, false, Some, None, IfOk, MatchOption};
+ghost use Rattle.std.specs.Prelude.{◌≡◌, false, Some, None, option_map, IfOk, MatchOption};
 ghost use Rattle.std.specs.Option.{is_some};
 ghost use Rattle.kmip_call.specs.TreeWords.{an_operation, a_message, tree_text, tree_words};
+ghost use Rattle.kmip_call.specs.TreeWords.{item_id};
 ghost use Rattle.kmip_words.specs.Calls.{typed_call};
 ghost use Rattle.kmip_words.specs.Exchange.{request_asked};
 ghost use Rattle.kmip_call.specs.Asked.{is_allowed, call_for, AsksForNone, Requests};
@@ -9,7 +10,7 @@ ghost use Rattle.kmip_call.specs.declared.requested.Asked.TheVariants.{Typed};
 
 use crate::command::Order;
 use crate::record::{is_recordable, words_for};
-use crate::tree_words::{TreeWords, tree_words};
+use crate::tree_words::{TreeWords, item_id, tree_words};
 use kmip_operations::{
     OperationCall, message_of, message_request, operation_call, operation_request,
 };
@@ -79,21 +80,35 @@ fn typed_request(alloc: Global, order: &Order) -> Result<Option<Requested>, OutO
     Ok(Some(with_request(alloc, &order.settings, call)?))
 }
 
-/// The request of a call of any operation; `None` where the words ask for none.
-fn operation_request_of(
+/// The bytes of an ID, where there is one.
+fn bytes_in(id: &Option<Blob>) -> Option<&[u8]>
+    ensures { option_map (λ bytes. bytes.now) result ≡ id.now }
+{
+    match id {
+        Some(id) => Some(id.as_slice()),
+        None => None,
+    }
+}
+
+/// The request of a call of any operation with this Unique Batch Item ID, where it has one, which
+/// the word `hex` gives; `None` where the words ask for none.
+fn operation_with(
     alloc: Global,
     order: &Order,
     name: &str,
     version: &str,
+    hex: Option<&str>,
+    id: &Option<Blob>,
     payload: &str,
 ) -> Result<Option<Requested>, OutOfMemory>
     requires file { is_some order.now.file ≡ false }
-    requires words { tree_words order.now.words ≡
-        Some (an_operation name.now version.now payload.now) }
+    requires words { tree_words order.now.words ≡ Some (an_operation name.now version.now
+        (option_map (λ text. text.now) hex) payload.now) }
+    requires id { item_id (option_map (λ text. text.now) hex) ≡ Some id.now }
     ensures { IfOk result (λ found. MatchOption found (AsksForNone order.now)
         (λ it. Requests order.now it.asked it.request)) }
 {
-    let Some(call) = operation_call(alloc, name, version, payload)? else {
+    let Some(call) = operation_call(alloc, name, version, bytes_in(id), payload)? else {
         return Ok(None);
     };
     let request = operation_request(alloc, &order.settings, &call)?;
@@ -101,6 +116,27 @@ fn operation_request_of(
         asked: Asked::Operation(call),
         request,
     }))
+}
+
+/// The request of a call of any operation; `None` where the words ask for none.
+fn operation_request_of(
+    alloc: Global,
+    order: &Order,
+    name: &str,
+    version: &str,
+    hex: Option<&str>,
+    payload: &str,
+) -> Result<Option<Requested>, OutOfMemory>
+    requires file { is_some order.now.file ≡ false }
+    requires words { tree_words order.now.words ≡ Some (an_operation name.now version.now
+        (option_map (λ text. text.now) hex) payload.now) }
+    ensures { IfOk result (λ found. MatchOption found (AsksForNone order.now)
+        (λ it. Requests order.now it.asked it.request)) }
+{
+    match item_id(alloc, hex)? {
+        Some(id) => operation_with(alloc, order, name, version, hex, &id, payload),
+        None => Ok(None),
+    }
 }
 
 /// The bytes of a message; `None` where the word is none.
@@ -142,8 +178,9 @@ fn tree_request(
         TreeWords::Operation {
             name,
             version,
+            hex,
             payload,
-        } => operation_request_of(alloc, order, name, version, payload),
+        } => operation_request_of(alloc, order, name, version, hex, payload),
         TreeWords::Message { message } => message_request_of(alloc, order, message),
     }
 }

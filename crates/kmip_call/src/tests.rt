@@ -2,7 +2,9 @@
 //!
 //! A message in a row stands in the notation of kmip_test_messages, as `REQ2(25, C4 i16)`, and in a
 //! record as `<REQ2(25, C4 i16)>`. The lines of answers were written by hand.
-use self::answers::{ANSWERS, DEEPEST, MESSAGES, OPERATIONS, TOO_DEEP};
+use self::answers::{
+    ANSWERS, DEEPEST, IDENTIFIED_OPERATIONS, MESSAGES, OPERATIONS, TOO_DEEP,
+};
 use self::errors::{AROUND, ERRORS, GRAMMAR, RECORDS};
 use crate::command::{Command, command_of};
 use crate::help::{grammar_json, help_text};
@@ -241,6 +243,14 @@ fn a_call_sends_reads_records_and_answers_as_its_row_says(rt: HostRuntime) -> Re
         for row in rows {
             is_made(&rt, rt.alloc(), row)?;
         }
+    }
+    Ok(())
+}
+
+#[test]
+fn an_answer_has_the_id_of_its_operation(rt: HostRuntime) -> Result<(), Fail> {
+    for row in IDENTIFIED_OPERATIONS {
+        is_made(&rt, rt.alloc(), row)?;
     }
     Ok(())
 }

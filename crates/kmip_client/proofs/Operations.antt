@@ -1,21 +1,22 @@
 -- The message round a payload tree.
-use Rattle.std.proofs.Common.{◌≡◌, ℕ, ◌+◌, ◌<◌, ◌≤◌, ◌%◌, ◌^◌, List, [], ◌∷◌, ◌++◌, length, refl, ◌∙◌, ap, sym, subst, arith, rules, pos, Bool, true, false, cond, ltb-true, Option, Some, None, length-append, append-nil, lit<, inl, inr}
+use Rattle.std.proofs.Common.{◌≡◌, ℕ, ◌+◌, ◌<◌, ◌≤◌, ◌%◌, ◌^◌, List, [], ◌∷◌, ◌++◌, length, refl, ◌∙◌, ap, sym, subst, arith, rules, pos, Bool, true, false, cond, ltb-true, Option, Some, None, length-append, append-nil, append_assoc, lit<, inl, inr}
 use Rattle.std.specs.Int.{w32}
 use Rattle.std.specs.Prelude.{option_map, nat_le, nat_lt, IfSome, IsUtf8, FitsSigned}
 use Rattle.std.proofs.lemmas.Int.{ints}
 use Rattle.std.specs.Option.{option_and_then}
 use Rattle.std.proofs.lemmas.Bool.{cases_lt, le-leb, lt-leb, leb-true}
 use Rattle.std.proofs.lemmas.Bool.Decides.{nat_tests}
-use Rattle.kmip_tags.specs.Tags.{BATCH_COUNT, BATCH_ITEM, CREDENTIAL_VALUE, OPERATION, PROTOCOL_VERSION, PROTOCOL_VERSION_MAJOR, PROTOCOL_VERSION_MINOR, USERNAME, REQUEST_HEADER, REQUEST_MESSAGE}
-use Rattle.kmip_wire.specs.Tree.{Tree, scalar, structure, more, none, trees_of, enumeration, integer, text_string}
-use Rattle.kmip_wire.specs.Bytes.{bytes, all_bytes, structure_bytes, in_order, item_bytes, levels, levels_of_all, HasRanges, HaveRanges}
+use Rattle.kmip_tags.specs.Tags.{BATCH_COUNT, BATCH_ITEM, CREDENTIAL_VALUE, OPERATION, PROTOCOL_VERSION, PROTOCOL_VERSION_MAJOR, PROTOCOL_VERSION_MINOR, USERNAME, REQUEST_HEADER, REQUEST_MESSAGE, UNIQUE_BATCH_ITEM_ID}
+use Rattle.kmip_wire.specs.Tree.{Tree, scalar, structure, more, none, trees_of, enumeration, integer, text_string, byte_string}
+use Rattle.kmip_wire.specs.Bytes.{bytes, all_bytes, structure_bytes, in_order, item_bytes, levels, levels_of_all, AreBytes, HasRanges, HaveRanges}
+use Rattle.kmip_wire.specs.declared.kind.Kind.TheVariants.{ByteString}
 use Rattle.kmip_wire.specs.Parses.{Parses}
 use Rattle.kmip_wire.proofs.Written.{written_parses}
 use Rattle.kmip_wire.specs.Room.{Room, Appends}
-use Rattle.kmip_shape.specs.Val.{Val, Number}
-use Rattle.kmip_shape.specs.Shape.{Shape, OneOf, NoCase}
+use Rattle.kmip_shape.specs.Val.{Val, Number, Bytes}
+use Rattle.kmip_shape.specs.Shape.{Shape, Scalar, OneOf, NoCase}
 use Rattle.kmip_shape.specs.Trees.{tree_of}
-use Rattle.kmip_shape.specs.Writes.{HasForm, size_of, text_of, wire_len_of, bytes_of, structure_head, leaf_text}
+use Rattle.kmip_shape.specs.Writes.{HasForm, size_of, text_of, wire_len_of, bytes_of, structure_head, leaf_text, leaf_size}
 use Rattle.kmip_shape.proofs.Known.{value_known}
 use Rattle.kmip_shape.proofs.Lengths.{wire_len_law}
 use Rattle.kmip_shape.proofs.Aligned.{trees_aligned, flat, IsAligned}
@@ -36,7 +37,7 @@ use Rattle.kmip_types.specs.declared.auth.CredentialType.{CredentialType as TheC
 use Rattle.kmip_types.specs.declared.auth.CredentialType.TheVariants.{UsernameAndPassword}
 use Rattle.kmip_client.specs.declared.operation.Version.{Version}
 use Rattle.kmip_client.specs.declared.operation.Version.TheVariants.{V1_0, V1_1, V1_2}
-use Rattle.kmip_client.specs.Operation.{TreeRequest, minor_number, operation_tree, operation_bytes, message_bytes}
+use Rattle.kmip_client.specs.Operation.{TreeRequest, minor_number, identified_tree, operation_tree, operation_bytes, message_bytes, id_bytes, id_text, id_size, id_len}
 use Rattle.kmip_client.specs.WholeMessage.{is_message}
 use Rattle.kmip_client.proofs.WholeMessages.{append_within}
 
@@ -147,6 +148,56 @@ message_too_long header payload n p long =
           ∙ too_long REQUEST_MESSAGE (header ++ one) (omega (arith, size))
     ]
 
+-- a batch item without bytes is of no message
+no_bytes_in : (header : Option (List ℕ)) (n : ℕ) → message_bytes header n None ≡ None
+no_bytes_in None n = refl
+no_bytes_in (Some header) n = no_item header _ (ap (λ o. structure_bytes BATCH_ITEM (in_order o None)) (operation_item n).0)
+
+-- ---- the item of an ID
+
+-- what its length says: that it has no bytes, or which it has
+record IsIdOf (id : Option (List ℕ)) (size : ℕ) : Type 0 where
+  bytes_are : id_bytes id ≡ Some (id_text id)
+  size_is : id_size id ≡ size
+  len : length (id_text id) ≡ size
+  even : size % 8 ≡ 0
+
+sized_id : (id : List ℕ) (size : ℕ) (small : Bool) → nat_lt (length id) (2 ^ 32) ≡ small
+    → cond small (Some (leaf_size (byte_string id))) None ≡ Some size → IsIdOf (Some id) size
+sized_id id size false same is = absurd (cc)
+sized_id id size true same is =
+    let has = written (Bytes id) NoCase (Scalar ByteString) UNIQUE_BATCH_ITEM_ID (ltb-true (length id) (2 ^ 32) same) in
+    let sizes : leaf_size (byte_string id) ≡ size = cc in
+    let long : length (leaf_text UNIQUE_BATCH_ITEM_ID (byte_string id)) ≡ size = has.1 ∙ sizes in
+    record {
+      bytes_are = has.0;
+      size_is = sizes;
+      len = long;
+      even = subst (λ k. k % 8 ≡ 0) long
+          (aligned (scalar UNIQUE_BATCH_ITEM_ID (byte_string id)) (leaf_text UNIQUE_BATCH_ITEM_ID (byte_string id)) has.0);
+    }
+
+id_of_len : (id : Option (List ℕ)) (size : ℕ) → id_len id ≡ Some size → IsIdOf id size
+id_of_len None size is =
+    let zero : 0 ≡ size = cc in
+    record { bytes_are = refl; size_is = zero; len = zero; even = omega (arith, zero) }
+id_of_len (Some id) size is = sized_id id size (nat_lt (length id) (2 ^ 32)) refl is
+
+long_id : (id : List ℕ) (small : Bool) → nat_lt (length id) (2 ^ 32) ≡ small
+    → cond small (Some (leaf_size (byte_string id))) None ≡ None
+    → id_bytes (Some id) ≡ None
+long_id id true same is = absurd (cc)
+long_id id false same is =
+    ap (λ (b : Bool). cond b (Some (leaf_text UNIQUE_BATCH_ITEM_ID (byte_string id))) None) same
+
+pub id_without_bytes : (header : Option (List ℕ)) (n : ℕ) (id : Option (List ℕ)) (payload : List ℕ)
+    → id_len id ≡ None → message_bytes header n (in_order (id_bytes id) (Some payload)) ≡ None
+id_without_bytes header n None payload is = absurd (cc)
+id_without_bytes header n (Some id) payload is =
+    ap (λ o. message_bytes header n (in_order o (Some payload)))
+    (long_id id (nat_lt (length id) (2 ^ 32)) refl is)
+    ∙ no_bytes_in header n
+
 -- ---- the header
 
 abbrev version_number : ℕ → ProtocolVersion
@@ -199,7 +250,8 @@ bytes_aligned : (o : Option Tree) (b : List ℕ) → option_and_then bytes o ≡
 bytes_aligned None b is = absurd (cc)
 bytes_aligned (Some tree) b is = aligned tree b is
 
-pub message_ok : (val : Val) (n : ℕ) (payload : List ℕ) (message item size : ℕ) (a b : Room)
+-- round a header, and whatever follows the operation in the batch item
+parts_ok : (val : Val) (n : ℕ) (payload : List ℕ) (message item size : ℕ) (a b : Room)
     → HasForm request_header val → length payload % 8 ≡ 0 →
     message ≡ size_of request_header val + (8 + (16 + length payload)) → item ≡ 16 + length payload
     → message < 2 ^ 32 → a.bytes ≡ [] →
@@ -208,7 +260,7 @@ pub message_ok : (val : Val) (n : ℕ) (payload : List ℕ) (message item size :
     ++ (structure_head BATCH_ITEM item ++ (leaf_text OPERATION (enumeration n) ++ payload))))
     size →
     message_bytes (bytes_of request_header REQUEST_HEADER val) n (Some payload) ≡ Some b.bytes
-message_ok val n payload message item size a b form even long short small empty appends =
+parts_ok val n payload message item size a b form even long short small empty appends =
     let header : List ℕ = text_of request_header REQUEST_HEADER val in
     let has = written val NoCase request_header REQUEST_HEADER form in
     let whole : List ℕ = structure_head REQUEST_MESSAGE message
@@ -221,15 +273,55 @@ message_ok val n payload message item size a b form even long short small empty 
     (long ∙ ap (λ k. k + (8 + (16 + length payload))) (sym has.1)) short small
     ∙ ap Some (sym is))
 
-pub message_no_form : (val : Val) (n : ℕ) (payload : List ℕ) (header : ℕ)
+parts_no_form : (val : Val) (n : ℕ) (payload : List ℕ) (header : ℕ)
     → HasForm request_header val → length payload % 8 ≡ 0 → header ≡ size_of request_header val
     → 2 ^ 32 ≤ header + (8 + (16 + length payload)) →
     message_bytes (bytes_of request_header REQUEST_HEADER val) n (Some payload) ≡ None
-message_no_form val n payload header form even size long =
+parts_no_form val n payload header form even size long =
     let has = written val NoCase request_header REQUEST_HEADER form in
     ap (λ o. message_bytes o n (Some payload)) has.0
     ∙ message_too_long (text_of request_header REQUEST_HEADER val) payload n even
     (omega (arith, has.1, size))
+
+-- an ID and a payload
+id_and_payload : (id : Option (List ℕ)) (payload : List ℕ) (before : ℕ) → IsIdOf id before →
+    length (id_text id ++ payload) ≡ before + length payload
+id_and_payload id payload before has =
+    length-append (id_text id) payload ∙ ap (λ k. k + length payload) has.len
+
+pub message_ok : (val : Val) (n : ℕ) (id : Option (List ℕ)) (payload : List ℕ)
+    (before message item size : ℕ) (a b : Room)
+    → HasForm request_header val → id_len id ≡ Some before → length payload % 8 ≡ 0 →
+    message ≡ size_of request_header val + (8 + (16 + (before + length payload)))
+    → item ≡ 16 + (before + length payload) → message < 2 ^ 32 → a.bytes ≡ [] →
+    Appends a b (structure_head REQUEST_MESSAGE message
+    ++ (text_of request_header REQUEST_HEADER val
+    ++ (structure_head BATCH_ITEM item
+    ++ (leaf_text OPERATION (enumeration n) ++ (id_text id ++ payload)))))
+    size →
+    message_bytes (bytes_of request_header REQUEST_HEADER val) n
+    (in_order (id_bytes id) (Some payload)) ≡ Some b.bytes
+message_ok val n id payload before message item size a b form is even long short small empty appends =
+    let has : IsIdOf id before = id_of_len id before is in
+    let both : length (id_text id ++ payload) ≡ before + length payload = id_and_payload id payload before has in
+    ap (λ o. message_bytes (bytes_of request_header REQUEST_HEADER val) n (in_order o (Some payload))) has.bytes_are
+    ∙ parts_ok val n (id_text id ++ payload) message item size a b form
+    (omega (arith, both, even, has.even))
+    (long ∙ ap (λ k. size_of request_header val + (8 + (16 + k))) (sym both))
+    (short ∙ ap (λ k. 16 + k) (sym both)) small empty appends
+
+pub message_no_form : (val : Val) (n : ℕ) (id : Option (List ℕ)) (payload : List ℕ) (before header : ℕ)
+    → HasForm request_header val → id_len id ≡ Some before → length payload % 8 ≡ 0
+    → header ≡ size_of request_header val
+    → 2 ^ 32 ≤ header + (8 + (16 + (before + length payload))) →
+    message_bytes (bytes_of request_header REQUEST_HEADER val) n
+    (in_order (id_bytes id) (Some payload)) ≡ None
+message_no_form val n id payload before header form is even size long =
+    let has : IsIdOf id before = id_of_len id before is in
+    let both : length (id_text id ++ payload) ≡ before + length payload = id_and_payload id payload before has in
+    ap (λ o. message_bytes (bytes_of request_header REQUEST_HEADER val) n (in_order o (Some payload))) has.bytes_are
+    ∙ parts_no_form val n (id_text id ++ payload) header form
+    (omega (arith, both, even, has.even)) size (omega (arith, long, both))
 
 -- ---- levels
 
@@ -249,39 +341,71 @@ header_levels minor c =
     omega (arith, rest)
 
 -- the message is of at most 64 levels where the payload is of at most 62
-message_levels : (header payload : Tree) (n : ℕ) → levels header ≤ 5
-    → nat_le (levels payload) 62 ≡ is_message (message_tree header n payload)
-message_levels header payload n small =
+message_levels : (header payload : Tree) (n : ℕ) (id : Option (List ℕ)) → levels header ≤ 5
+    → nat_le (levels payload) 62 ≡ is_message (identified_tree header n id payload)
+message_levels header payload n None small =
     elim (cases_lt (levels payload) 63) [
       | inl within ↦
           le-leb (levels payload) 62 (omega (arith, within))
-          ∙ sym (le-leb (levels (message_tree header n payload)) 64 (omega (arith, within, small)))
+          ∙ sym (le-leb (levels (identified_tree header n None payload)) 64 (omega (arith, within, small)))
       | inr past ↦
           lt-leb (levels payload) 62 (omega (arith, past))
-          ∙ sym (lt-leb (levels (message_tree header n payload)) 64 (omega (arith, past)))
+          ∙ sym (lt-leb (levels (identified_tree header n None payload)) 64 (omega (arith, past)))
+    ]
+message_levels header payload n (Some id) small =
+    elim (cases_lt (levels payload) 63) [
+      | inl within ↦
+          le-leb (levels payload) 62 (omega (arith, within))
+          ∙ sym (le-leb (levels (identified_tree header n (Some id) payload)) 64 (omega (arith, within, small)))
+      | inr past ↦
+          lt-leb (levels payload) 62 (omega (arith, past))
+          ∙ sym (lt-leb (levels (identified_tree header n (Some id) payload)) 64 (omega (arith, past)))
     ]
 
 -- ---- the request
 
--- the request is the message round its payload's bytes
-request_is : (operation : Operation) (version : Version) (credential : Option Authentication) (payload : Tree) →
+nothing_before : (o : Option (List ℕ)) → in_order (Some []) o ≡ o
+nothing_before None = refl
+nothing_before (Some b) = refl
+
+in_order_assoc : (a b c : Option (List ℕ)) → in_order (in_order a b) c ≡ in_order a (in_order b c)
+in_order_assoc None b c = refl
+in_order_assoc (Some a) None c = refl
+in_order_assoc (Some a) (Some b) None = refl
+in_order_assoc (Some a) (Some b) (Some c) = ap Some (append_assoc a b c)
+
+-- the bytes of a message are those of its header, its ID and its payload
+identified_is : (header payload : Tree) (n : ℕ) (id : Option (List ℕ)) →
+    message_bytes (bytes header) n (in_order (id_bytes id) (bytes payload))
+    ≡ bytes (identified_tree header n id payload)
+identified_is header payload n None = ap (message_bytes (bytes header) n) (nothing_before (bytes payload))
+identified_is header payload n (Some id) =
+    ap (λ o. structure_bytes REQUEST_MESSAGE (in_order (bytes header) (in_order (structure_bytes BATCH_ITEM
+    (in_order (bytes (scalar OPERATION (enumeration n))) o)) (Some []))))
+    (in_order_assoc (bytes (scalar UNIQUE_BATCH_ITEM_ID (byte_string id))) (bytes payload) (Some []))
+
+-- the request is the message round its ID and its payload's bytes
+request_is : (operation : Operation) (version : Version) (credential : Option Authentication)
+    (id : Option (List ℕ)) (payload : Tree) →
     message_bytes (bytes_of request_header REQUEST_HEADER
     (lent_header_val (version_number (minor_number version)) credential))
-    (operation_line operation).number (bytes payload)
-    ≡ bytes (operation_tree operation version (option_map credential_of credential) payload)
-request_is operation version credential payload =
-    ap (λ o. message_bytes o (operation_line operation).number (bytes payload))
+    (operation_line operation).number (in_order (id_bytes id) (bytes payload))
+    ≡ bytes (operation_tree operation version (option_map credential_of credential) id payload)
+request_is operation version credential id payload =
+    ap (λ o. message_bytes o (operation_line operation).number (in_order (id_bytes id) (bytes payload)))
     (header_bytes (minor_number version) credential)
+    ∙ identified_is (header_tree (minor_number version) (authentication_trees (option_map credential_of credential)))
+    payload (operation_line operation).number id
 
 -- which is sent where the payload has at most 62 levels, and has no bytes where it has more
 within_is : (request : TreeRequest) (c : Option TheCredential) (within : Bool)
     → within ≡ nat_le (levels request.payload) 62 →
     operation_bytes request c
-    ≡ cond within (bytes (operation_tree request.operation request.version c request.payload)) None
+    ≡ cond within (bytes (operation_tree request.operation request.version c request.id request.payload)) None
 within_is request c within is =
-    ap (λ (b : Bool). cond b (bytes (operation_tree request.operation request.version c request.payload)) None)
+    ap (λ (b : Bool). cond b (bytes (operation_tree request.operation request.version c request.id request.payload)) None)
     (sym (is ∙ message_levels (header_tree (minor_number request.version) (authentication_trees c))
-    request.payload (operation_line request.operation).number
+    request.payload (operation_line request.operation).number request.id
     (header_levels (minor_number request.version) c)))
 
 pub too_deep : (request : TreeRequest) (c : Option TheCredential)
@@ -289,39 +413,39 @@ pub too_deep : (request : TreeRequest) (c : Option TheCredential)
 too_deep request c is = within_is request c false is
 
 -- a payload without bytes is of no message
-no_bytes_in : (header : Option (List ℕ)) (n : ℕ) → message_bytes header n None ≡ None
-no_bytes_in None n = refl
-no_bytes_in (Some header) n = no_item header _ (ap (λ o. structure_bytes BATCH_ITEM (in_order o None)) (operation_item n).0)
+none_after : (o : Option (List ℕ)) → in_order o None ≡ None
+none_after None = refl
+none_after (Some b) = refl
 
 pub no_payload : (request : TreeRequest) (credential : Option Authentication)
     → true ≡ nat_le (levels request.payload) 62 → bytes request.payload ≡ None
     → operation_bytes request (option_map credential_of credential) ≡ None
 no_payload request credential within is =
     within_is request (option_map credential_of credential) true within
-    ∙ sym (request_is request.operation request.version credential request.payload)
+    ∙ sym (request_is request.operation request.version credential request.id request.payload)
     ∙ ap (λ o. message_bytes (bytes_of request_header REQUEST_HEADER
     (lent_header_val (version_number (minor_number request.version)) credential))
-    (operation_line request.operation).number o) is
+    (operation_line request.operation).number o)
+    (ap (in_order (id_bytes request.id)) is ∙ none_after (id_bytes request.id))
     ∙ no_bytes_in _ (operation_line request.operation).number
 
-pub sent_is : (operation : Operation) (version : Version) (credential : Option Authentication)
-    (payload : Tree) (made : ProtocolVersion) (blob sent : List ℕ)
-    → true ≡ nat_le (levels payload) 62
-    → made ≡ version_number (minor_number version) → bytes payload ≡ Some blob → sent ≡ blob →
+pub sent_is : (request : TreeRequest) (credential : Option Authentication)
+    (made : ProtocolVersion) (blob sent : List ℕ)
+    → true ≡ nat_le (levels request.payload) 62
+    → made ≡ version_number (minor_number request.version) → bytes request.payload ≡ Some blob
+    → sent ≡ blob →
     message_bytes (bytes_of request_header REQUEST_HEADER (lent_header_val made credential))
-    (operation_line operation).number (Some sent)
-    ≡ operation_bytes (record { operation = operation; version = version; payload = payload })
-    (option_map credential_of credential)
-sent_is operation version credential payload made blob sent within in_version written same =
+    (operation_line request.operation).number (in_order (id_bytes request.id) (Some sent))
+    ≡ operation_bytes request (option_map credential_of credential)
+sent_is request credential made blob sent within in_version written same =
     ap (λ (v : ProtocolVersion). message_bytes
     (bytes_of request_header REQUEST_HEADER (lent_header_val v credential))
-    (operation_line operation).number (Some sent)) in_version
+    (operation_line request.operation).number (in_order (id_bytes request.id) (Some sent))) in_version
     ∙ (ap (λ o. message_bytes (bytes_of request_header REQUEST_HEADER
-    (lent_header_val (version_number (minor_number version)) credential))
-    (operation_line operation).number o) (ap Some same ∙ sym written)
-    ∙ (request_is operation version credential payload
-    ∙ sym (within_is (record { operation = operation; version = version; payload = payload })
-    (option_map credential_of credential) true within)))
+    (lent_header_val (version_number (minor_number request.version)) credential))
+    (operation_line request.operation).number (in_order (id_bytes request.id) o)) (ap Some same ∙ sym written)
+    ∙ (request_is request.operation request.version credential request.id request.payload
+    ∙ sym (within_is request (option_map credential_of credential) true within)))
 
 -- ---- each request parses
 
@@ -367,17 +491,21 @@ header_ranges minor c small fits =
     (omega arith, small_fits 1 (omega arith)) in
     (omega arith, (version, rest))
 
-message_ranges : (header payload : Tree) (n : ℕ) → HasRanges header → HasRanges payload → n < 2 ^ 32
-    → HasRanges (message_tree header n payload)
-message_ranges header payload n h p small =
+message_ranges : (header payload : Tree) (n : ℕ) (id : Option (List ℕ)) → HasRanges header
+    → IfSome id AreBytes → HasRanges payload → n < 2 ^ 32
+    → HasRanges (identified_tree header n id payload)
+message_ranges header payload n None h i p small =
     (omega arith, (h, ((omega arith, ((omega arith, small), (p, tt))), tt)))
+message_ranges header payload n (Some id) h i p small =
+    (omega arith, (h, ((omega arith, ((omega arith, small), ((omega arith, i), (p, tt)))), tt)))
 
-tree_ranges : (request : TreeRequest) (c : Option TheCredential) → FitsCredential c → HasRanges request.payload
-    → HasRanges (operation_tree request.operation request.version c request.payload)
-tree_ranges request c fits ranges =
+tree_ranges : (request : TreeRequest) (c : Option TheCredential) → FitsCredential c
+    → IfSome request.id AreBytes → HasRanges request.payload
+    → HasRanges (operation_tree request.operation request.version c request.id request.payload)
+tree_ranges request c fits id ranges =
     message_ranges (header_tree (minor_number request.version) (authentication_trees c)) request.payload
-    (operation_line request.operation).number
-    (header_ranges (minor_number request.version) c (minor_small request.version) fits) ranges
+    (operation_line request.operation).number request.id
+    (header_ranges (minor_number request.version) c (minor_small request.version) fits) id ranges
     (ltb-true (operation_line request.operation).number (2 ^ 32) (operation_test request.operation))
 
 bytes_parse : (tree : Tree) (b : List ℕ) (within : Bool) → HasRanges tree → nat_le (levels tree) 64 ≡ within
@@ -386,10 +514,20 @@ bytes_parse tree b false ranges same is = absurd (cc)
 bytes_parse tree b true ranges same is =
     written_parses tree 1 b ranges (omega arith) (omega (arith, leb-true (levels tree) 64 same)) is
 
+-- the message is a structure, so it may be sent where it is of at most 64 levels
+by_levels : (header payload : Tree) (n : ℕ) (id : Option (List ℕ)) →
+    nat_le (levels (identified_tree header n id payload)) 64
+    ≡ is_message (identified_tree header n id payload)
+by_levels header payload n None = refl
+by_levels header payload n (Some id) = refl
+
 pub each_parses : (request : TreeRequest) (c : Option TheCredential) (b : List ℕ) → FitsCredential c
-    → HasRanges request.payload → operation_bytes request c ≡ Some b
-    → Parses (operation_tree request.operation request.version c request.payload) 1 b
-each_parses request c b fits ranges is =
-    bytes_parse (operation_tree request.operation request.version c request.payload) b
-    (is_message (operation_tree request.operation request.version c request.payload))
-    (tree_ranges request c fits ranges) refl is
+    → IfSome request.id AreBytes → HasRanges request.payload → operation_bytes request c ≡ Some b
+    → Parses (operation_tree request.operation request.version c request.id request.payload) 1 b
+each_parses request c b fits id ranges is =
+    bytes_parse (operation_tree request.operation request.version c request.id request.payload) b
+    (is_message (operation_tree request.operation request.version c request.id request.payload))
+    (tree_ranges request c fits id ranges)
+    (by_levels (header_tree (minor_number request.version) (authentication_trees c)) request.payload
+    (operation_line request.operation).number request.id)
+    is

@@ -20,7 +20,7 @@ use Rattle.kmip_client.specs.Message.{message_at, Whole}
 use Rattle.kmip_client.specs.Headline.{IsReadBy}
 use Rattle.kmip_client.specs.Operation.{IsValidTree}
 use Rattle.kmip_client.specs.Outcome.{reading_failed, writing_failed}
-use Rattle.kmip_client.specs.Untyped.{IsSuccess, not_response, listed_failure, numbered_failure, failure_of, payload_of, names, success_of, status_answer, items_answer, counts_one, message_answer, parsed_answer, untyped_answer, all_under, number_under, text_under, other_text, status_text}
+use Rattle.kmip_client.specs.Untyped.{IsSuccess, not_response, listed_failure, numbered_failure, failure_of, payload_of, names, success_of, status_answer, items_answer, counts_one, message_answer, parsed_answer, identified_answer, is_of_other_item, other_item, all_under, number_under, text_under, other_text, status_text}
 use Rattle.kmip_client.proofs.Headlines.{parses_of, computed_of}
 use Rattle.kmip_client.proofs.Tagged.{item_answers}
 
@@ -91,6 +91,12 @@ tree_says {P} all operation (Some message) =
     (items_say all operation (counts_one message) (all_under BATCH_ITEM message))
     (all.internal _)
 
+identified_says : {P : Result Tree Error → Type 0} → OfTrees P
+    → (operation : Operation) (id : Option (List ℕ)) (message : Option Tree)
+    → P (cond (is_of_other_item id message) (Err other_item) (parsed_answer operation message))
+identified_says {P} all operation id message =
+    either P (is_of_other_item id message) _ _ (all.internal _) (tree_says all operation message)
+
 none_fails : OfTrees (λ answer. answer ≡ reading_failed → ⊥)
 none_fails = record {
   ok = λ p is. cc;
@@ -101,8 +107,9 @@ none_fails = record {
   not_found = λ t is. cc;
 }
 
-pub never_fails : (operation : Operation) (m : List ℕ) → untyped_answer operation m ≡ reading_failed → ⊥
-never_fails operation m = tree_says none_fails operation (item_of 64 m)
+pub never_fails : (operation : Operation) (id : Option (List ℕ)) (m : List ℕ)
+    → identified_answer operation id m ≡ reading_failed → ⊥
+never_fails operation id m = identified_says none_fails operation id (item_of 64 m)
 
 none_writes : OfTrees (λ answer. answer ≡ writing_failed → ⊥)
 none_writes = record {
@@ -113,8 +120,9 @@ none_writes = record {
   not_found = λ t is. cc;
 }
 
-pub never_writes : (operation : Operation) (m : List ℕ) → untyped_answer operation m ≡ writing_failed → ⊥
-never_writes operation m = tree_says none_writes operation (item_of 64 m)
+pub never_writes : (operation : Operation) (id : Option (List ℕ)) (m : List ℕ)
+    → identified_answer operation id m ≡ writing_failed → ⊥
+never_writes operation id m = identified_says none_writes operation id (item_of 64 m)
 
 -- ---- which messages answer a payload
 
@@ -216,24 +224,37 @@ success_answers operation message payload it =
     (Err (InternalError (other_text operation)))) (eq-eqb n n refl)
     ∙ it.payload_is)))
 
-from_tree : (operation : Operation) (limit : Option ℕ) (rest m : List ℕ) (payload : Tree)
-    (message : Option Tree) → message_at rest limit ≡ Whole m → item_of 64 m ≡ message
-    → parsed_answer operation message ≡ Ok payload → IsValidTree operation limit rest m payload
-from_tree operation limit rest m payload None front is answers = error_payload answers
-from_tree operation limit rest m payload (Some message) front is answers =
+from_tree : (operation : Operation) (id : Option (List ℕ)) (limit : Option ℕ) (rest m : List ℕ)
+    (payload : Tree) (message : Option Tree) (other : Bool)
+    → message_at rest limit ≡ Whole m → item_of 64 m ≡ message → is_of_other_item id message ≡ other
+    → cond other (Err other_item) (parsed_answer operation message) ≡ Ok payload
+    → IsValidTree operation id limit rest m payload
+from_tree operation id limit rest m payload message true front is own answers = error_payload answers
+from_tree operation id limit rest m payload None false front is own answers = error_payload answers
+from_tree operation id limit rest m payload (Some message) false front is own answers =
     record {
       message = message;
       front = front;
       parses = parses_of message m is;
+      not_other = own;
       success =
           from_message operation message payload answers;
     }
 
-pub tree_valid : (operation : Operation) (limit : Option ℕ)
-    → IsReadBy (untyped_answer operation) limit (IsValidTree operation limit)
-tree_valid operation limit = record {
-  valid = λ rest m payload front answers. from_tree operation limit rest m payload (item_of 64 m) front refl answers;
+identified_success : (operation : Operation) (id : Option (List ℕ)) (m : List ℕ) (message payload : Tree)
+    → item_of 64 m ≡ Some message → is_of_other_item id (Some message) ≡ false
+    → IsSuccess operation message payload → identified_answer operation id m ≡ Ok payload
+identified_success operation id m message payload is own success =
+    ap (λ (front : Option Tree). cond (is_of_other_item id front) (Err other_item) (parsed_answer operation front)) is
+    ∙ (ap (λ (other : Bool). cond other (Err other_item) (message_answer operation message)) own
+    ∙ success_answers operation message payload success)
+
+pub tree_valid : (operation : Operation) (id : Option (List ℕ)) (limit : Option ℕ)
+    → IsReadBy (identified_answer operation id) limit (IsValidTree operation id limit)
+tree_valid operation id limit = record {
+  valid = λ rest m payload front answers.
+      from_tree operation id limit rest m payload (item_of 64 m) (is_of_other_item id (item_of 64 m)) front refl refl answers;
   front = λ rest m payload it. it.front;
-  read = λ rest m payload it. ap (parsed_answer operation) (computed_of it.message m it.parses)
-      ∙ success_answers operation it.message payload it.success;
+  read = λ rest m payload it.
+      identified_success operation id m it.message payload (computed_of it.message m it.parses) it.not_other it.success;
 }

@@ -1,14 +1,14 @@
 -- Calls of any operation whose payloads are trees, whatever KMIP's tables say of them: what a
--- response message answers (KMIP 1.0, 6.2, 6.9 to 6.11, 6.14 and 7.1).
-use Rattle.std.specs.Prelude.{◌≡◌, ℕ, pos, List, [], ◌∷◌, ◌++◌, length, Bool, true, false, ◌==◌, Option, Some, None, if◌then◌else◌, Result, Ok, Err, codes}
+-- response message answers (KMIP 1.0, 6.2, 6.4, 6.9 to 6.11, 6.14 and 7.1).
+use Rattle.std.specs.Prelude.{◌≡◌, ℕ, pos, List, [], ◌∷◌, ◌++◌, length, Bool, true, false, not, ◌&&◌, ◌||◌, ◌==◌, bytes_eq, Option, Some, None, if◌then◌else◌, Result, Ok, Err, codes}
 use Rattle.std.specs.List.{filter}
 use Rattle.std.specs.Option.{option_and_then}
 use Rattle.std.specs.Ordering.{int_eq}
 use Rattle.std.specs.Fmt.{decimal}
-use Rattle.kmip_tags.specs.Tags.{BATCH_COUNT, BATCH_ITEM, OPERATION, RESPONSE_HEADER, RESPONSE_MESSAGE, RESPONSE_PAYLOAD, RESULT_MESSAGE, RESULT_REASON, RESULT_STATUS}
+use Rattle.kmip_tags.specs.Tags.{BATCH_COUNT, BATCH_ITEM, OPERATION, RESPONSE_HEADER, RESPONSE_MESSAGE, RESPONSE_PAYLOAD, RESULT_MESSAGE, RESULT_REASON, RESULT_STATUS, UNIQUE_BATCH_ITEM_ID}
 use Rattle.kmip_wire.specs.Tree.{Tree, structure, none}
 use Rattle.kmip_shape.specs.Shape.{has_tag}
-use Rattle.kmip_wire.specs.Parts.{children_in, int_in, enumeration_in, text_in}
+use Rattle.kmip_wire.specs.Parts.{children_in, int_in, enumeration_in, text_in, bytes_in}
 use Rattle.kmip_wire.specs.Reading.{item_of}
 use Rattle.kmip_shape.specs.Enumerations.{variant_at}
 use Rattle.kmip_enums.specs.Operations.{operation_line}
@@ -47,6 +47,10 @@ number_under tag tree = option_and_then enumeration_in (one_under tag tree)
 abbrev pub text_under : ℕ → Tree → List ℕ
 text_under tag tree =
     elim (option_and_then text_in (one_under tag tree)) [ None ↦ [] | Some text ↦ text ]
+
+-- its bytes, where it is a Byte String
+abbrev pub bytes_under : ℕ → Tree → Option (List ℕ)
+bytes_under tag tree = option_and_then bytes_in (one_under tag tree)
 
 -- ---- what a response message answers
 
@@ -151,3 +155,53 @@ pub record IsSuccess (operation : Operation) (message payload : Tree) : Type 0 w
   pub status_is : number_under RESULT_STATUS item ≡ Some (result_status_line Success).number
   pub operation_is : number_under OPERATION item ≡ Some (operation_line operation).number
   pub payload_is : payload_of (all_under RESPONSE_PAYLOAD item) ≡ Ok payload
+
+-- ---- the Unique Batch Item ID
+
+-- whether a status is the enumeration's number 1, Operation Failed (KMIP 1.0, 9.1.3.2.27)
+abbrev pub is_failed : Option ℕ → Bool
+is_failed (Some status) = status == 1
+is_failed None = false
+
+abbrev pub reports_failure : Tree → Bool
+reports_failure item = is_failed (number_under RESULT_STATUS item)
+
+-- the batch item of a response message that has one, and whose header counts one
+abbrev pub sole_item : Tree → Option Tree
+sole_item message =
+    if has_tag RESPONSE_MESSAGE message && counts_one message then one_under BATCH_ITEM message
+    else None
+
+abbrev pub are_these : List ℕ → Option (List ℕ) → Bool
+are_these bytes None = false
+are_these bytes (Some found) = bytes_eq found bytes
+
+-- whether a batch item has this Unique Batch Item ID: exactly one, a Byte String of these bytes
+abbrev pub has_id : List ℕ → Tree → Bool
+has_id id item = are_these id (bytes_under UNIQUE_BATCH_ITEM_ID item)
+
+-- whether a batch item is that of the request with this ID (KMIP 1.0, 6.4): it has the ID; or it
+-- reports failure and names no operation and has no ID, as one does where the server could not read
+-- the request
+abbrev pub answers_id : List ℕ → Tree → Bool
+answers_id id item =
+    has_id id item
+    || (reports_failure item && (length (all_under OPERATION item) == 0
+    && length (all_under UNIQUE_BATCH_ITEM_ID item) == 0))
+
+abbrev pub is_other_item : List ℕ → Option Tree → Bool
+is_other_item id None = false
+is_other_item id (Some item) = not (answers_id id item)
+
+-- whether a message has one batch item, which is that of a request with another ID
+abbrev pub is_of_other_item : Option (List ℕ) → Option Tree → Bool
+is_of_other_item (Some id) (Some message) = is_other_item id (sole_item message)
+is_of_other_item id message = false
+
+abbrev pub other_item : Error
+other_item = InternalError (codes "Response does not have the request's Unique Batch Item ID")
+
+-- what a whole message answers a request with this ID
+abbrev pub identified_answer : Operation → Option (List ℕ) → List ℕ → Result Tree Error
+identified_answer operation id m =
+    if is_of_other_item id (item_of 64 m) then Err other_item else untyped_answer operation m

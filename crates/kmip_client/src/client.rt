@@ -8,17 +8,16 @@ ghost use Rattle.kmip_client.specs.Client.{count_after, IsOfOperation};
 ghost use Rattle.kmip_client.specs.Outcome.{answer_with_payload, seen_by};
 ghost use Rattle.kmip_client.specs.Calls.{IsCall, IsCallOf};
 ghost use Rattle.kmip_client.specs.Kept.{IsKept};
-ghost use Rattle.kmip_client.specs.Operation.{IsOperationCall};
+ghost use Rattle.kmip_client.specs.Operation.{IsOperationCall, tree_request};
 ghost use Rattle.kmip_client.specs.WholeMessage.{IsMessageCall, is_message};
 
 use crate::answered::Answered;
 use crate::call::{Diagnostics, Settings, call};
 use crate::call_request::{CallRequest, TypedRequest};
 use crate::error::Error;
-use crate::operation::{OperationRequest, Version};
+use crate::operation::OperationRequest;
 use crate::room::{Room, keep, open};
 use crate::whole_message::MessageRequest;
-use kmip_enums::Operation;
 use kmip_link::Link;
 use kmip_request::{Authentication, RequestPayload};
 use kmip_response::ResponsePayload;
@@ -213,17 +212,26 @@ impl<T: Link> Client<T> {
     /// and payload, and the client's credential (`operation_tree`, specs/Operation.antt). The
     /// payload is sent as it stands: KMIP wants a structure with the tag Request Payload (KMIP 1.0,
     /// 9.1.3.1). Link faults and lack of memory aside, it returns a payload exactly where the bytes
-    /// left begin with a message that parses and is a success (`IsSuccess`, specs/Untyped.antt): a
-    /// Response Message whose header counts one batch item and which has one, with the status
-    /// Success and this operation. The payload is that of the item, and an empty structure with the
-    /// tag Response Payload where it has none. Its errors are those of `do_request`, but for these:
+    /// left begin with a message that parses, is not that of another batch item, and is a success
+    /// (`IsSuccess`, specs/Untyped.antt): a Response Message whose header counts one batch item and
+    /// which has one, with the status Success and this operation. The payload is that of the item,
+    /// and an empty structure with the tag Response Payload where it has none.
+    ///
+    /// Where the request has a Unique Batch Item ID, it is sent in the batch item, after the
+    /// operation, and a server gives it back (KMIP 1.0, 6.4). A message whose one batch item has
+    /// not exactly that ID is that of another batch item, as the late response to an earlier call
+    /// is (`is_of_other_item`, specs/Untyped.antt). Only a failure that names no operation and has
+    /// no ID is this call's without it, as comes where the server could not read the request.
+    ///
+    /// Its errors are those of `do_request`, but for these:
     ///
     /// - `SerializeError`: the message would have more than 64 levels, so that the payload has more
     ///   than 62, or it has no wire form. Nothing was sent or taken.
     /// - `ServerError`, `ItemNotFound`: the server refused the request. The text has the server's
     ///   message, where the batch item has exactly one Result Message and that is a text, and the
     ///   number of a reason that KMIP 1.0 does not list.
-    /// - `InternalError`: the message is well formed and is neither a success nor such a refusal.
+    /// - `InternalError`: the message is well formed and is neither a success nor such a refusal,
+    ///   or it is that of another batch item.
     ///
     /// Its contract has the fields of `IsCall`, for this request and this reading of a response:
     /// `exchange`, `caused`, `writing`, `reading`, `headline`, `keeps`, `credential`, `limit`, `buffered`,
@@ -231,20 +239,11 @@ impl<T: Link> Client<T> {
     pub fn do_operation(
         &mut self,
         alloc: Global,
-        operation: Operation,
-        version: Version,
-        payload: &Tree,
+        request: &OperationRequest<'_>,
     ) -> Result<Tree, Error>
-        ensures { IsOperationCall T.state
-            (record { operation = operation; version = version; payload = payload.now })
-            self.old self.new result }
+        ensures { IsOperationCall T.state (tree_request request.now) self.old self.new result }
     {
-        let request = OperationRequest {
-            operation,
-            version,
-            payload,
-        };
-        self.make_call(alloc, &request)
+        self.make_call(alloc, request)
     }
 
     /// Sends a whole message of the caller's, and returns the whole response, each as a tree: so it

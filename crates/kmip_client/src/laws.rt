@@ -1,7 +1,7 @@
 //! Laws over sessions, each the contract of a function that does nothing.
 
-ghost use Rattle.std.specs.Prelude.{◌≡◌, ◌≢◌, ◌↔◌, ◌++◌, ℕ, List, Ok, Option, Some, map, take};
-ghost use Rattle.kmip_wire.specs.Bytes.{HasRanges};
+ghost use Rattle.std.specs.Prelude.{◌≡◌, ◌≢◌, ◌↔◌, ◌++◌, ℕ, List, Ok, Option, Some, IfSome, map, take};
+ghost use Rattle.kmip_wire.specs.Bytes.{AreBytes, HasRanges};
 ghost use Rattle.kmip_wire.specs.Tree.{Tree};
 ghost use Rattle.kmip_shape.specs.Val.{Val, One};
 ghost use Rattle.kmip_shape.specs.Shape.{chosen_by};
@@ -58,13 +58,14 @@ pub fn later_bytes_play_no_part()
         message_at rest limit }
 {}
 
-/// Each request that `do_operation` sends parses as its message. The two premises are true of every
-/// credential and every tree in Rust.
+/// Each request that `do_operation` sends parses as its message. The three premises are true of
+/// every credential, every ID and every tree in Rust.
 pub fn operation_parses()
     ensures { (request : TreeRequest) (credential : Option CredentialType) (b : List ℕ) →
-        FitsCredential credential → HasRanges request.payload →
+        FitsCredential credential → IfSome request.id AreBytes → HasRanges request.payload →
         operation_bytes request credential ≡ Some b →
-        Parses (operation_tree request.operation request.version credential request.payload) 1 b }
+        Parses (operation_tree request.operation request.version credential request.id
+        request.payload) 1 b }
 {}
 
 /// Where one message answers a payload to `do_request` and a tree to `do_operation`, the payload is

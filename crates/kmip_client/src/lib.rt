@@ -29,6 +29,7 @@ mod error;
 mod exchange;
 mod front;
 mod helpers;
+mod identified;
 mod laws;
 mod message;
 mod operation;
@@ -43,13 +44,14 @@ mod writing;
 pub use builder::ClientBuilder;
 pub use client::Client;
 pub use error::{Error, Result};
+pub use identified::is_of_other_item;
 pub use kmip_request as request;
 pub use kmip_response as response;
 pub use laws::{
     diagnostics_of_sessions, later_bytes_play_no_part, messages_are_answered_in_order,
     operation_parses, typed_payload_is_of_the_tree,
 };
-pub use operation::Version;
+pub use operation::{OperationRequest, Version};
 pub use reading::{Reading, read_operation_response, read_response, read_whole_message};
 pub use session::{Answers, Exchange, exchange_all};
 pub use writing::{write_operation_request, write_whole_message};

@@ -1,12 +1,12 @@
 //! What bytes answer, with no link: for callers who carry the bytes themselves.
-ghost use Rattle.std.specs.Prelude.{◌≡◌, Err, IfOk, true};
+ghost use Rattle.std.specs.Prelude.{◌≡◌, Err, IfOk, option_map, true};
 ghost use Rattle.kmip_response.specs.Values.{response_payload_val};
 ghost use Rattle.kmip_client.specs.Client.{IsOfOperation};
 ghost use Rattle.kmip_client.specs.Front.{message_seen};
 ghost use Rattle.kmip_client.specs.Message.{message_at, taken_for};
 ghost use Rattle.kmip_client.specs.Outcome.{Gives, answer_by, answer_of, answer_with_payload};
 ghost use Rattle.kmip_client.specs.Outcome.{refused_text, seen_by};
-ghost use Rattle.kmip_client.specs.Untyped.{untyped_answer};
+ghost use Rattle.kmip_client.specs.Untyped.{identified_answer};
 ghost use Rattle.kmip_client.specs.WholeMessage.{is_message, whole_answer};
 ghost use Rattle.kmip_client.specs.declared.error.Error.TheVariants.{DeserializeError};
 
@@ -76,23 +76,25 @@ pub fn read_response(
 }
 
 /// Reads what the message at the front of these bytes answers to a request of any operation, as a
-/// tree: the reading of `do_operation`, of bytes that the caller carries. What `limit` and `taken`
-/// mean, and the errors, are those of `read_response`, but for these, which are as `do_operation`
-/// has them:
+/// tree: the reading of `do_operation`, of bytes that the caller carries. `id` is the Unique Batch
+/// Item ID that the request had, if it had one. What `limit` and `taken` mean, and the errors, are
+/// those of `read_response`, but for these, which are as `do_operation` has them:
 ///
 /// - `ServerError`, `ItemNotFound`: the server refused the request.
-/// - `InternalError`: the message is well formed and is neither a success nor such a refusal.
+/// - `InternalError`: the message is well formed and is neither a success nor such a refusal, or
+///   its batch item is that of a request with another ID (`is_of_other_item`).
 pub fn read_operation_response(
     alloc: Global,
     operation: Operation,
+    id: Option<&[u8]>,
     bytes: &[u8],
     limit: Option<u32>,
 ) -> Reading<Tree>
-    ensures answer { Gives (answer_by (untyped_answer operation) (message_at bytes.now limit))
-        result.answer }
+    ensures answer { Gives (answer_by (identified_answer operation (option_map (λ b. b.now) id.entry))
+        (message_at bytes.now limit)) result.answer }
     ensures taken { result.taken ≡ taken_for bytes.now (message_at bytes.now limit) }
 {
-    read_front(alloc, &OperationAnswers { operation }, bytes, limit)
+    read_front(alloc, &OperationAnswers { operation, id }, bytes, limit)
 }
 
 /// Reads the message at the front of these bytes as a tree, whatever it says: the reading of

@@ -10,7 +10,7 @@ ghost use Rattle.kmip_shape.specs.Shape.{has_tag};
 ghost use Rattle.kmip_client.specs.Untyped.{children_of, all_under, one_under};
 ghost use Rattle.kmip_client.specs.Untyped.{number_under, text_under, malformed, not_response};
 ghost use Rattle.kmip_client.specs.Untyped.{failure_of, payload_of, success_of, status_answer};
-ghost use Rattle.kmip_client.specs.Untyped.{is_one, counts_one, message_answer, untyped_answer};
+ghost use Rattle.kmip_client.specs.Untyped.{is_one, counts_one, message_answer};
 ghost use Rattle.kmip_client.specs.declared.error.Error.TheVariants.{InternalError};
 
 use crate::error::Error;
@@ -54,7 +54,7 @@ fn text_of(node: &Node) -> Option<&str>
 }
 
 /// The items within an item.
-fn children(tree: &Tree) -> &[Tree]
+pub fn children(tree: &Tree) -> &[Tree]
     ensures { result.now ≡ children_of tree.now }
 {
     match &tree.node {
@@ -64,14 +64,14 @@ fn children(tree: &Tree) -> &[Tree]
 }
 
 /// Whether an item has this tag.
-fn has_tag(tree: &Tree, tag: Tag) -> bool
+pub fn has_tag(tree: &Tree, tag: Tag) -> bool
     ensures { result ≡ has_tag tag tree.now }
 {
     tree.tag.number() == tag.number()
 }
 
 /// How many of the items have this tag.
-fn count(trees: &[Tree], tag: Tag) -> usize
+pub fn count(trees: &[Tree], tag: Tag) -> usize
     ensures { result ≡ length (filter (has_tag tag) trees.now) }
 {
     let mut count = 0;
@@ -94,7 +94,7 @@ fn first(trees: &[Tree], tag: Tag) -> usize
 }
 
 /// The item with this tag, where there is exactly one.
-fn one_under(tree: &Tree, tag: Tag) -> Option<&Tree>
+pub fn one_under(tree: &Tree, tag: Tag) -> Option<&Tree>
     ensures { option_copied result ≡ one_under tag tree.now }
 {
     let trees = children(tree);
@@ -106,7 +106,7 @@ fn one_under(tree: &Tree, tag: Tag) -> Option<&Tree>
 }
 
 /// Its number, where it is an enumeration.
-fn number_under(tree: &Tree, tag: Tag) -> Option<u32>
+pub fn number_under(tree: &Tree, tag: Tag) -> Option<u32>
     ensures { result ≡ number_under tag tree.now }
 {
     match one_under(tree, tag) {
@@ -246,7 +246,7 @@ fn item_answer(alloc: Global, operation: Operation, item: Tree) -> Result<Tree, 
 }
 
 /// Whether the header of a message counts one batch item.
-fn counts_one(message: &Tree) -> bool
+pub fn counts_one(message: &Tree) -> bool
     ensures { result ≡ counts_one message.now }
 {
     let Some(header) = one_under(message, Tag::of(RESPONSE_HEADER)) else {
@@ -259,7 +259,7 @@ fn counts_one(message: &Tree) -> bool
 }
 
 /// What a message answers.
-fn message_answer(alloc: Global, operation: Operation, message: Tree) -> Result<Tree, Error>
+pub fn message_answer(alloc: Global, operation: Operation, message: Tree) -> Result<Tree, Error>
     ensures { Gives (message_answer operation message) result }
 {
     if !has_tag(&message, Tag::of(RESPONSE_MESSAGE)) {
@@ -292,15 +292,5 @@ pub fn whole_tree(alloc: Global, m: &[u8]) -> Result<Option<Tree>, OutOfMemory>
         Err(WireError::Malformed) => Ok(None),
         Err(WireError::NoForm) => unreachable!(),
         Err(WireError::OutOfMemory) => Err(OutOfMemory),
-    }
-}
-
-/// What the bytes of a whole message answer.
-pub fn untyped_answer(alloc: Global, operation: Operation, m: &[u8]) -> Result<Tree, Error>
-    ensures { Gives (untyped_answer operation m.now) result }
-{
-    match whole_tree(alloc, m)? {
-        Some(message) => message_answer(alloc, operation, message),
-        None => malformed(alloc),
     }
 }

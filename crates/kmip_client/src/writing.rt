@@ -2,13 +2,12 @@
 ghost use Rattle.std.specs.Option.{option_map};
 ghost use Rattle.kmip_wire.specs.Found.{GivesBytes};
 ghost use Rattle.kmip_request.specs.Message.{credential_of};
-ghost use Rattle.kmip_client.specs.Operation.{operation_bytes};
+ghost use Rattle.kmip_client.specs.Operation.{operation_bytes, tree_request};
 ghost use Rattle.kmip_client.specs.WholeMessage.{whole_bytes};
 
 use crate::call_request::CallRequest;
-use crate::operation::{OperationRequest, Version};
+use crate::operation::OperationRequest;
 use crate::whole_message::MessageRequest;
-use kmip_enums::Operation;
 use kmip_request::Authentication;
 use kmip_wire::{Blob, Buffer, Tree, WireError};
 use std::alloc::Global;
@@ -34,21 +33,13 @@ fn written<R: CallRequest>(
 /// is never returned.
 pub fn write_operation_request(
     alloc: Global,
-    operation: Operation,
-    version: Version,
-    payload: &Tree,
+    request: &OperationRequest<'_>,
     authentication: &Option<Authentication>,
 ) -> Result<Blob, WireError>
-    ensures { GivesBytes result (operation_bytes
-        (record { operation = operation; version = version; payload = payload.now })
+    ensures { GivesBytes result (operation_bytes (tree_request request.now)
         (option_map credential_of authentication.now)) }
 {
-    let request = OperationRequest {
-        operation,
-        version,
-        payload,
-    };
-    written(alloc, &request, authentication)
+    written(alloc, request, authentication)
 }
 
 /// The bytes of a whole message: those that `do_message` sends. `read_whole_message` reads what

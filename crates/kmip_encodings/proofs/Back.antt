@@ -65,12 +65,12 @@ long_back n h = ap (option_and_then long_of_bytes)
 
 -- ---- tags
 
-abbrev has_word : List ℕ → List (List ℕ) → Bool
+abbrev pub has_word : List ℕ → List (List ℕ) → Bool
 has_word w [] = false
 has_word w (x ∷ xs) = cond (bytes_eq x w) true (has_word w xs)
 
 -- no two words are equal, and none begins with `0`
-abbrev are_good : List (List ℕ) → Bool
+abbrev pub are_good : List (List ℕ) → Bool
 are_good [] = true
 are_good (w ∷ ws) = not (has_word w ws) && (not (get_or w 0 0 == 48) && are_good ws)
 
@@ -102,7 +102,7 @@ word_stands (x ∷ ws) (suc i) w h =
       | false ↦ word_stands ws i w h
     ]
 
-word_found : (ws : List (List ℕ)) (tag i : ℕ) (w : List ℕ) → are_good ws ≡ true
+pub word_found : (ws : List (List ℕ)) (tag i : ℕ) (w : List ℕ) → are_good ws ≡ true
     → slice_get ws i ≡ Some w → named_from tag ws w ≡ Some (tag + i)
 word_found [] tag i w g h = cc
 word_found (x ∷ ws) tag zero w g h =
@@ -123,7 +123,7 @@ word_found (x ∷ ws) tag (suc i) w g h =
           word_found ws (tag + 1) i w rest h ∙ ap Some next
     ] refl
 
-word_plain : (ws : List (List ℕ)) (i : ℕ) (w : List ℕ) → are_good ws ≡ true
+pub word_plain : (ws : List (List ℕ)) (i : ℕ) (w : List ℕ) → are_good ws ≡ true
     → slice_get ws i ≡ Some w → (get_or w 0 0 == 48) ≡ false
 word_plain [] i w g h = cc
 word_plain (x ∷ ws) zero w g h =
@@ -136,7 +136,7 @@ word_plain (x ∷ ws) (suc i) w g h =
     word_plain ws i w (and_right (not (get_or x 0 0 == 48)) (are_good ws)
     (and_right (not (has_word x ws)) (not (get_or x 0 0 == 48) && are_good ws) g)) h
 
-word_at : (tag : ℕ) (w : List ℕ) → tag_word tag ≡ Some w → (first_tag ≤ tag)
+pub word_at : (tag : ℕ) (w : List ℕ) → tag_word tag ≡ Some w → (first_tag ≤ tag)
     × (slice_get words (tag - first_tag) ≡ Some w)
 word_at tag w h =
     elim (nat_lt tag first_tag) as (λ b. nat_lt tag first_tag ≡ b → cond b None
@@ -164,7 +164,7 @@ three tag h = ap Some (omega (arith, from_be_bytes-to_be_bytes_4 tag (omega arit
 three_are_bytes : (tag : ℕ) → AreBytes (drop 1 (to_be_bytes w32 tag))
 three_are_bytes tag i = four_are_bytes tag (suc i)
 
-number_back : (tag : ℕ) → tag < 2 ^ 24 → tag_of_text (hex_text (drop 1 (to_be_bytes w32 tag))) ≡ Some tag
+pub number_back : (tag : ℕ) → tag < 2 ^ 24 → tag_of_text (hex_text (drop 1 (to_be_bytes w32 tag))) ≡ Some tag
 unfolding tag_of_text
 number_back tag h = marked_back (drop 1 (to_be_bytes w32 tag)) tag_of_bytes _ (three_are_bytes tag) ∙ three tag h
 

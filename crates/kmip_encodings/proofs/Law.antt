@@ -149,7 +149,7 @@ flat_integer : (z : ℤ) (o : Option (List ℕ)) → depth (text_or_number z o) 
 flat_integer z None = refl
 flat_integer z (Some s) = refl
 
-flat : (tag : ℕ) (s : Scalar) → depth (value_json tag s) ≡ 0
+pub flat : (tag : ℕ) (s : Scalar) → depth (value_json tag s) ≡ 0
 flat tag (integer z) = flat_integer z (mask_text (codes "|") tag z)
 flat tag (long_integer z) = flat_long z
 flat tag (big_integer b) = refl
@@ -186,7 +186,7 @@ integer_number : (z : ℤ) (o : Option (List ℕ)) → FitsSigned w32 z → HasN
 integer_number z None h = IsNumber-signed_decimal z (mag_of z (abs_small z h))
 integer_number z (Some s) h = tt
 
-number_is : (tag : ℕ) (s : Scalar) → IsInRange s → HasNumbers (value_json tag s)
+pub number_is : (tag : ℕ) (s : Scalar) → IsInRange s → HasNumbers (value_json tag s)
 number_is tag (integer z) h = integer_number z (mask_text (codes "|") tag z) h
 number_is tag (long_integer z) h = long_number z
 number_is tag (big_integer b) h = tt
@@ -214,7 +214,7 @@ integer_unique : (z : ℤ) (o : Option (List ℕ)) → HasUniqueKeys (text_or_nu
 integer_unique z None = tt
 integer_unique z (Some s) = tt
 
-value_unique : (tag : ℕ) (s : Scalar) → HasUniqueKeys (value_json tag s)
+pub value_unique : (tag : ℕ) (s : Scalar) → HasUniqueKeys (value_json tag s)
 value_unique tag (integer z) = integer_unique z (mask_text (codes "|") tag z)
 value_unique tag (long_integer z) =
     elim (is_short z) as (λ b. HasUniqueKeys

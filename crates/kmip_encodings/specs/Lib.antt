@@ -10,5 +10,6 @@ pub mod Sizes
 pub mod Encoding
 pub mod Parts
 pub mod Reading
+pub mod Refusals
 pub mod XmlGrammar
 pub mod Xml

@@ -8,7 +8,7 @@ use kmip_tags::tags;
 use kmip_wire::{Node, Tag, Tree};
 
 /// Where no Attribute Name stands before an Attribute Value: under this tag no table is.
-pub(crate) fn unnamed() -> Tag
+pub fn unnamed() -> Tag
     ensures { result ≡ ATTRIBUTE_VALUE }
 {
     Tag::of(tags::ATTRIBUTE_VALUE)
@@ -16,7 +16,7 @@ pub(crate) fn unnamed() -> Tag
 
 /// The tag under which the names of an item's value are looked up: its own, but for Attribute
 /// Value, where it is `named`.
-pub(crate) fn place(named: Tag, tag: Tag) -> Tag
+pub fn place(named: Tag, tag: Tag) -> Tag
     ensures { result ≡ place named tag }
 {
     if tag.number() == tags::ATTRIBUTE_VALUE {
@@ -27,7 +27,7 @@ pub(crate) fn place(named: Tag, tag: Tag) -> Tag
 }
 
 /// Where the names of Attribute Value are looked up after this item of the same structure.
-pub(crate) fn named_after(named: Tag, item: &Tree) -> Tag
+pub fn named_after(named: Tag, item: &Tree) -> Tag
     ensures { result ≡ named_after named item.now }
 {
     if item.tag.number() != tags::ATTRIBUTE_NAME {

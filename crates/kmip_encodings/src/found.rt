@@ -1,4 +1,6 @@
 //! What stands at a place of a text of JSON, and where that is.
+ghost use Rattle.std.specs.Prelude.{◌<◌};
+
 use crate::error::Expected;
 use json::{MAX_DEPTH, Reader, Scratch, Token, Value};
 use kmip_shape::ShowItem;
@@ -247,25 +249,29 @@ pub(crate) fn repeated(alloc: Global, text: &str) -> Result<(usize, Option<Text>
 }
 
 /// The line of a byte, counted from 1.
-pub(crate) fn line_of(text: &[u8], offset: usize) -> usize {
-    let mut line = 1usize;
+pub(crate) fn line_of(text: &[u8], offset: usize) -> usize
+    ensures { 0 < result }
+{
+    let mut before = 0usize;
     for at in 0..text.len() {
         if at < offset && text[at] == b'\n' {
-            line = line.saturating_add(1);
+            before = before.saturating_add(1);
         }
     }
-    line
+    before.saturating_add(1)
 }
 
 /// The column of a byte in its line, in characters, counted from 1.
-pub(crate) fn column_of(text: &[u8], offset: usize) -> usize {
-    let mut column = 1usize;
+pub(crate) fn column_of(text: &[u8], offset: usize) -> usize
+    ensures { 0 < result }
+{
+    let mut before = 0usize;
     for at in 0..text.len() {
         if at < offset && text[at] == b'\n' {
-            column = 1;
+            before = 0;
         } else if at < offset && text[at] & 0xC0 != 0x80 {
-            column = column.saturating_add(1);
+            before = before.saturating_add(1);
         }
     }
-    column
+    before.saturating_add(1)
 }

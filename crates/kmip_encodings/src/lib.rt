@@ -29,11 +29,14 @@ mod words;
 mod write_json;
 mod write_xml;
 
+pub use attributes::attribute_tag;
+pub use context::{named_after, place, unnamed};
 pub use error::{EncodingError, Expected, Fault};
 pub use laws::{item_sizes, names_back, read_back, read_levels, written_xml};
 pub use names::{enumeration_name, enumeration_number};
 pub use read_json::from_json;
 pub use refusal::{Refusal, push_refusal, refusal_of};
+pub use text::{mask_text, tag_digits};
 pub use words::{tag_named, tag_word};
-pub use write_json::{to_json, to_json_with_offsets};
+pub use write_json::{put_value, to_json, to_json_with_offsets};
 pub use write_xml::to_xml;

@@ -1,4 +1,10 @@
 //! Why a text is not read, told to a person: where, what was expected and what stands there.
+ghost use Rattle.std.specs.Fmt.{decimal};
+ghost use Rattle.std.specs.Prelude.{◌≡◌, ◌<◌, ◌++◌, IfOk, OnOk};
+ghost use Rattle.kmip_encodings.specs.Refusals.{dotted, index_text, place_text, path_text};
+ghost use Rattle.kmip_encodings.specs.Refusals.{position_text, path_part, found_text};
+ghost use Rattle.kmip_encodings.specs.Refusals.{refusal_text};
+
 use crate::error::{EncodingError, Expected, Fault};
 use crate::expected::{push_expected, table_tag};
 use crate::found::{
@@ -35,28 +41,60 @@ struct Parts {
     found: Text,
 }
 
-pub(crate) fn push_number(out: &mut Text, number: usize) -> Result<(), OutOfMemory> {
+/// Appends a number in decimal.
+fn push_number(out: &mut Text, number: usize) -> Result<(), OutOfMemory>
+    ensures { OnOk result (out.new ≡ out.old ++ decimal number) }
+{
     out.push_str(Buffer::new().format(number))
 }
 
-/// The way to an item, from the outermost, and to the member that is at fault.
-fn path_of(alloc: Global, place: &[usize], spot: Spot) -> Result<Text, OutOfMemory> {
-    let mut out = Text::new(alloc);
-    for index in place.iter().rev() {
-        if !out.as_str().is_empty() {
-            out.push_str(".")?;
-        }
-        out.push_str("value[")?;
-        push_number(&mut out, *index)?;
-        out.push_str("]")?;
+/// Appends a full stop to a path that has a part.
+fn push_dot(out: &mut Text) -> Result<(), OutOfMemory>
+    ensures { OnOk result (out.new ≡ dotted out.old) }
+{
+    if out.as_str().is_empty() {
+        return Ok(());
     }
-    if let Spot::Member(name) = spot {
-        if !out.as_str().is_empty() {
-            out.push_str(".")?;
+    out.push_str(".")
+}
+
+/// Appends the part of a path for an item among its siblings.
+fn push_index(out: &mut Text, index: usize) -> Result<(), OutOfMemory>
+    ensures { OnOk result (out.new ≡ out.old ++ index_text index) }
+{
+    out.push_str("value[")?;
+    push_number(out, index)?;
+    out.push_str("]")
+}
+
+/// The way to an item from the outermost one.
+fn place_text(alloc: Global, place: &[usize]) -> Result<Text, OutOfMemory>
+    ensures { IfOk result (λ text. text ≡ place_text place.now) }
+{
+    match place {
+        [] => Ok(Text::new(alloc)),
+        [index, around @ ..] => {
+            let mut text = place_text(alloc, around)?;
+            push_dot(&mut text)?;
+            push_index(&mut text, *index)?;
+            Ok(text)
         }
-        out.push_str(name)?;
     }
-    Ok(out)
+}
+
+/// The way to a part of an item from the outermost item.
+fn path_text(alloc: Global, place: &[usize], spot: Spot) -> Result<Text, OutOfMemory>
+    ensures { IfOk result (λ text. text ≡ path_text place.now spot) }
+{
+    let mut text = place_text(alloc, place)?;
+    match spot {
+        Spot::Item | Spot::OtherMember => Ok(text),
+        Spot::Member(name) => {
+            push_dot(&mut text)?;
+            text.push_str(name)?;
+            Ok(text)
+        }
+    }
 }
 
 /// The part of an item that is at fault.
@@ -95,7 +133,7 @@ fn misfit_parts(
     )?;
     Ok(Parts {
         offset: spot_offset(alloc, text, place, spot)?,
-        path: path_of(alloc, place, spot)?,
+        path: path_text(alloc, place, spot)?,
         expected,
         found,
     })
@@ -174,11 +212,10 @@ fn parts_of(alloc: Global, text: &str, error: &EncodingError) -> Result<Parts, O
 
 /// Why this text is not read: the error is that of `from_json` for the same text. It fails only
 /// where memory runs out.
-pub fn refusal_of(
-    alloc: Global,
-    text: &str,
-    error: &EncodingError,
-) -> Result<Refusal, OutOfMemory> {
+pub fn refusal_of(alloc: Global, text: &str, error: &EncodingError) -> Result<Refusal, OutOfMemory>
+    ensures line { IfOk result (λ refusal. 0 < refusal.line) }
+    ensures column { IfOk result (λ refusal. 0 < refusal.column) }
+{
     let parts = parts_of(alloc, text, error)?;
     Ok(Refusal {
         line: line_of(text.as_bytes(), parts.offset),
@@ -189,19 +226,44 @@ pub fn refusal_of(
     })
 }
 
+/// Appends the line and the column.
+fn push_position(out: &mut Text, line: usize, column: usize) -> Result<(), OutOfMemory>
+    ensures { OnOk result (out.new ≡ out.old ++ position_text line column) }
+{
+    out.push_str("line ")?;
+    push_number(out, line)?;
+    out.push_str(", column ")?;
+    push_number(out, column)
+}
+
+/// Appends the path with a comma before it, where there is one.
+fn push_path(out: &mut Text, path: &str) -> Result<(), OutOfMemory>
+    ensures { OnOk result (out.new ≡ out.old ++ path_part path.now) }
+{
+    if path.is_empty() {
+        return Ok(());
+    }
+    out.push_str(", ")?;
+    out.push_str(path)
+}
+
+/// Appends what was expected and what stands there.
+fn push_words(out: &mut Text, expected: &str, found: &str) -> Result<(), OutOfMemory>
+    ensures { OnOk result (out.new ≡ out.old ++ found_text expected.now found.now) }
+{
+    out.push_str(": expected ")?;
+    out.push_str(expected)?;
+    out.push_str(", found ")?;
+    out.push_str(found)
+}
+
 /// Appends a refusal as one sentence with no full stop, as
 /// `line 1, column 55, value: expected true or false, found 1`.
-pub fn push_refusal(out: &mut Text, refusal: &Refusal) -> Result<(), OutOfMemory> {
-    out.push_str("line ")?;
-    push_number(out, refusal.line)?;
-    out.push_str(", column ")?;
-    push_number(out, refusal.column)?;
-    if !refusal.path.as_str().is_empty() {
-        out.push_str(", ")?;
-        out.push_str(refusal.path.as_str())?;
-    }
-    out.push_str(": expected ")?;
-    out.push_str(refusal.expected.as_str())?;
-    out.push_str(", found ")?;
-    out.push_str(refusal.found.as_str())
+pub fn push_refusal(out: &mut Text, refusal: &Refusal) -> Result<(), OutOfMemory>
+    ensures { OnOk result (out.new ≡ out.old ++ refusal_text refusal.now) }
+{
+    push_position(out, refusal.line, refusal.column)?;
+    push_path(out, refusal.path.as_str())?;
+    push_words(out, refusal.expected.as_str(), refusal.found.as_str())?;
+    Ok(())
 }

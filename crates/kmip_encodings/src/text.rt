@@ -33,7 +33,7 @@ pub(crate) fn bytes_text(alloc: Global, bytes: &[u8]) -> Result<Text, OutOfMemor
 }
 
 /// `0x` and the six digits of the tag.
-pub(crate) fn tag_digits(alloc: Global, tag: Tag) -> Result<Text, OutOfMemory>
+pub fn tag_digits(alloc: Global, tag: Tag) -> Result<Text, OutOfMemory>
     ensures { IfOk result (λ text. text ≡ hex_text (drop 1 (to_be_bytes w32 tag))) }
 {
     hex_text(alloc, &tag.number().to_be_bytes()[1..])
@@ -187,7 +187,7 @@ fn bits_text(alloc: Global, separator: &str, tag: Tag, number: u32) -> Result<Te
 /// A mask by the names of its bits, with the separator between two; `None` of what is no mask, and
 /// of 0.
 #[tactic(auto, unfolding(crate::specs::Texts::mask_text))]
-pub(crate) fn mask_text(
+pub fn mask_text(
     alloc: Global,
     separator: &str,
     tag: Tag,

@@ -7,7 +7,7 @@ ghost use Rattle.kmip_wire.specs.Head.{pads};
 ghost use Rattle.kmip_wire.specs.Tree.{structure, trees_of};
 ghost use Rattle.kmip_tags.specs.Tags.{ATTRIBUTE_VALUE};
 ghost use Rattle.kmip_encodings.specs.Texts.{tag_text};
-ghost use Rattle.kmip_encodings.specs.Parts.{part_json, offset_tokens};
+ghost use Rattle.kmip_encodings.specs.Parts.{part_json, offset_tokens, value_tokens};
 ghost use Rattle.kmip_encodings.specs.Sizes.{size_of};
 ghost use Rattle.kmip_encodings.specs.Encoding.{is_short, long_json, integer_json, after};
 ghost use Rattle.kmip_encodings.specs.Encoding.{item_json, json_at, text_at, json_text};
@@ -140,6 +140,36 @@ fn put_item(
     put_part(part, writer)?;
     writer.end_object()?;
     Ok(())
+}
+
+/// Writes the value of an item that is no structure, as it stands in the tree's JSON; of a structure
+/// it writes nothing. Names of Attribute Value are those of `named`.
+pub fn put_value(
+    alloc: Global,
+    named: Tag,
+    tree: &Tree,
+    writer: &mut Writer,
+) -> Result<(), OutOfMemory>
+    ensures tokens { OnOk result (writer.new.tokens ≡
+        writer.old.tokens ++ value_tokens named tree.now) }
+    ensures before { writer.new.before ≡ writer.old.before }
+{
+    let tag = tree.tag;
+    let part = match &tree.node {
+        Node::Structure(_) => return Ok(()),
+        Node::Integer(number) => integer_part(alloc, place(named, tag), *number)?,
+        Node::LongInteger(number) => long_part(alloc, *number)?,
+        Node::BigInteger(bytes) => Part::Made(hex_text(alloc, bytes.as_slice())?),
+        Node::Enumeration(number) => {
+            Part::Made(enumeration_text(alloc, place(named, tag), *number)?)
+        }
+        Node::Boolean(truth) => Part::Truth(*truth),
+        Node::TextString(text) => Part::Lent(text.as_str()),
+        Node::ByteString(bytes) => Part::Made(bytes_text(alloc, bytes.as_slice())?),
+        Node::DateTime(seconds) => Part::Made(date_text(alloc, *seconds)?),
+        Node::Interval(seconds) => Part::Number(*seconds as i64),
+    };
+    put_part(&part, writer)
 }
 
 /// Writes an item, and returns where it ends. Names of Attribute Value are those of `named`.

@@ -1,5 +1,5 @@
--- A name, a version and a payload ask for one call at most.
-use Rattle.std.proofs.Common.{◌≡◌, List, ℕ, Bool, true, false, Option, Some, None, Ok, ap, ◌∙◌}
+-- A name, a version, an ID and a payload ask for one call at most.
+use Rattle.std.proofs.Common.{◌≡◌, List, ℕ, Bool, true, false, Option, Some, None, Ok, refl, sym, ap, ◌∙◌}
 use Rattle.std.specs.Option.{IsSomeAnd}
 use Rattle.json.specs.Json.{Json, document}
 use Rattle.json.specs.Strict.{HasUniqueKeys}
@@ -23,17 +23,30 @@ pub one_structure : (tag : ℕ) (text : List ℕ) (t u : Tree) → IsStructureTe
     → IsStructureText tag text u → t ≡ u
 one_structure tag text t u a b = same_tree (document text) t u a.0 b.0
 
-pub one_call : (name version payload : List ℕ) (r s : TreeRequest) → Asks name version payload r
-    → Asks name version payload s → r ≡ s
-one_call name version payload r s a b =
+pub one_call : (name version : List ℕ) (id : Option (List ℕ)) (payload : List ℕ) (r s : TreeRequest)
+    → Asks name version id payload r → Asks name version id payload s → r ≡ s
+one_call name version id payload r s a b =
     let operations : r.operation ≡ s.operation =
     (let first = a.operation_is in let second = b.operation_is in cc) in
     let versions : r.version ≡ s.version =
     (let first = a.version_is in let second = b.version_is in cc) in
+    let ids : r.id ≡ s.id = sym a.id_is ∙ b.id_is in
     let payloads : r.payload ≡ s.payload = same_tree (document payload) r.payload s.payload a.payload_is.0.0 b.payload_is.0.0 in
-    ap (λ (o : Operation). record { operation = o; version = r.version; payload = r.payload }) operations
-    ∙ ap (λ (v : Version). record { operation = s.operation; version = v; payload = r.payload }) versions
-    ∙ ap (λ (t : Tree). record { operation = s.operation; version = s.version; payload = t }) payloads
+    ap (λ (o : Operation). record { operation = o; version = r.version; id = r.id; payload = r.payload }) operations
+    ∙ ap (λ (v : Version). record { operation = s.operation; version = v; id = r.id; payload = r.payload }) versions
+    ∙ ap (λ (i : Option (List ℕ)). record { operation = s.operation; version = s.version; id = i; payload = r.payload }) ids
+    ∙ ap (λ (t : Tree). record { operation = s.operation; version = s.version; id = s.id; payload = t }) payloads
+
+-- and they ask for one with each ID, or with none
+pub with_id : (name version payload : List ℕ) (id other : Option (List ℕ)) (r : TreeRequest)
+    → Asks name version id payload r → Asks name version other payload
+    (record { operation = r.operation; version = r.version; id = other; payload = r.payload })
+with_id name version payload id other r asks = record {
+  operation_is = asks.operation_is;
+  version_is = asks.version_is;
+  id_is = refl;
+  payload_is = asks.payload_is;
+}
 
 clash : {G : Type 0} (b : Bool) → b ≡ true → b ≡ false → G
 clash true e f = absurd (cc)

@@ -31,40 +31,40 @@ line_same None reads settings operation rest some = absurd (cc)
 line_same (Some message) reads settings operation rest some = refl
 
 pub ending_same : (message : Option (List ℕ)) (reads : List ℕ → Result Tree Error)
-    (settings : Settings) (operation : Option Operation) (rest : List ℕ) → IsSome message →
-    outcome_ending operation (outcome_by message reads settings.limit rest) rest
-    ≡ outcome_ending operation (sent_outcome reads settings rest) rest
-ending_same None reads settings operation rest some = absurd (cc)
-ending_same (Some message) reads settings operation rest some = refl
+    (settings : Settings) (operation : Option Operation) (id : Option (List ℕ)) (rest : List ℕ)
+    → IsSome message → outcome_ending operation id (outcome_by message reads settings.limit rest) rest
+    ≡ outcome_ending operation id (sent_outcome reads settings rest) rest
+ending_same None reads settings operation id rest some = absurd (cc)
+ending_same (Some message) reads settings operation id rest some = refl
 
 -- ---- what is told of the answer that was given is told of the one that is due
 
 pub due_line : {E : Type 0} (result : Result TreeAnswer E) (operation : Option Operation)
-    (given : Result Tree Error) (first : List ℕ) (due : OutcomeOf Tree) (response : List ℕ)
+    (id : Option (List ℕ)) (given : Result Tree Error) (first : List ℕ) (due : OutcomeOf Tree) (response : List ℕ)
     → IsTreeReply given first due response →
-    IfOk result (λ answer. TellsTree operation given first answer.ending [] answer.line.items) →
+    IfOk result (λ answer. TellsTree operation id given first answer.ending [] answer.line.items) →
     IfOk result (λ answer. answer.line.items ≡ outcome_line operation due response)
-due_line (Ok answer) operation given first due response reply tells =
+due_line (Ok answer) operation id given first due response reply tells =
     let is = reply tells.some in
     tells.told ∙ ap (λ (a : Result Tree Error). tree_line (answer_to operation a first) first) is.0
     ∙ ap (λ (f : List ℕ). tree_line (answer_to operation due.answer f) f) is.1
-due_line (Err error) operation given first due response reply tells = tt
+due_line (Err error) operation id given first due response reply tells = tt
 
 pub due_ending : {E : Type 0} (result : Result TreeAnswer E) (operation : Option Operation)
-    (given : Result Tree Error) (first : List ℕ) (due : OutcomeOf Tree) (response : List ℕ)
+    (id : Option (List ℕ)) (given : Result Tree Error) (first : List ℕ) (due : OutcomeOf Tree) (response : List ℕ)
     → IsTreeReply given first due response →
-    IfOk result (λ answer. TellsTree operation given first answer.ending [] answer.line.items) →
-    IfOk result (λ answer. answer.ending ≡ outcome_ending operation due response)
-due_ending (Ok answer) operation given first due response reply tells =
+    IfOk result (λ answer. TellsTree operation id given first answer.ending [] answer.line.items) →
+    IfOk result (λ answer. answer.ending ≡ outcome_ending operation id due response)
+due_ending (Ok answer) operation id given first due response reply tells =
     let is = reply tells.some in
-    tells.ending_is ∙ ap (λ (a : Result Tree Error). tree_ending operation a first) is.0
-    ∙ ap (λ (f : List ℕ). tree_ending operation due.answer f) is.1
-due_ending (Err error) operation given first due response reply tells = tt
+    tells.ending_is ∙ ap (λ (a : Result Tree Error). tree_ending operation id a first) is.0
+    ∙ ap (λ (f : List ℕ). tree_ending operation id due.answer f) is.1
+due_ending (Err error) operation id given first due response reply tells = tt
 
 pub told_json : {E : Type 0} (result : Result TreeAnswer E) (operation : Option Operation)
-    (given : Result Tree Error) (first : List ℕ) →
-    IfOk result (λ answer. TellsTree operation given first answer.ending [] answer.line.items) →
+    (id : Option (List ℕ)) (given : Result Tree Error) (first : List ℕ) →
+    IfOk result (λ answer. TellsTree operation id given first answer.ending [] answer.line.items) →
     IfOk result (λ answer. IsTextLine answer.line.items)
-told_json (Ok answer) operation given first tells =
+told_json (Ok answer) operation id given first tells =
     let P : List ℕ → Type 0 = IsTextLine in subst P (sym tells.told) tells.json
-told_json (Err error) operation given first tells = tt
+told_json (Err error) operation id given first tells = tt

@@ -1,5 +1,5 @@
 -- What is told of an answer.
-use Rattle.std.proofs.Common.{◌≡◌, ◌≢◌, ℕ, List, ◌++◌, inl, inr, Option, Result, Ok, Err, IfOk, OnOk, refl, subst, IsUtf8}
+use Rattle.std.proofs.Common.{◌≡◌, ◌≢◌, ℕ, List, ◌++◌, inl, inr, Option, None, Result, Ok, Err, IfOk, OnOk, refl, ap, subst, ◌∙◌, IsUtf8}
 use Rattle.kmip_wire.specs.Tree.{Tree}
 use Rattle.kmip_shape.specs.declared.style.Style.TheVariants.{Json}
 use Rattle.kmip_encodings.specs.Encoding.{json_text}
@@ -13,14 +13,14 @@ use Rattle.kmip_words.specs.JsonLines.{IsGrammarLine}
 use Rattle.kmip_words.specs.declared.ending.Ending.{Ending}
 use Rattle.kmip_words.specs.declared.ending.Ending.TheVariants.{Answered}
 use Rattle.kmip_words.proofs.JsonLines.{rest_utf8}
-use Rattle.kmip_operations.specs.Answers.{tree_line, TellsTree}
+use Rattle.kmip_operations.specs.Answers.{tree_line, ending_for, TellsTree}
 use Rattle.kmip_operations.specs.JsonLines.{IsLineOf, answer_json}
 
-pub tree_told : (operation : Option Operation) (answer : Result Tree Error) (tree : Tree) (first old new : List ℕ)
+pub tree_told : (operation : Option Operation) (id : Option (List ℕ)) (answer : Result Tree Error) (tree : Tree) (first old new : List ℕ)
     → answer ≡ Ok tree → new ≡ old ++ value_line (json_text tree) Json
     → IsLineOf (answer_json tree) (tree_line (Ok tree) first) → IsUtf8 (tree_line (Ok tree) first)
-    → TellsTree operation answer first Answered old new
-tree_told operation answer tree first old new is line reads utf8 = rw is (record {
+    → TellsTree operation id answer first Answered old new
+tree_told operation id answer tree first old new is line reads utf8 = rw is (record {
   told = line;
   ending_is = refl;
   json = record { grammar = inl (answer_json tree, reads); utf8 = utf8 };
@@ -36,7 +36,7 @@ pub error_told : {E : Type 0} (result : Result Ending E) (operation : Option Ope
     → OnOk result (new ≡ old ++ failure_line (error_to operation error first) first)
     → IfOk result (λ ending. ending ≡ ending_to operation error first)
     → OnOk result (error ≢ OutOfMemory)
-    → IfOk result (λ ending. TellsTree operation (Err error) first ending old new)
+    → IfOk result (λ ending. TellsTree operation None (Err error) first ending old new)
 error_told (Ok ending) operation error first old new before after json shown ends some = record {
   told = shown;
   ending_is = ends;
@@ -47,3 +47,17 @@ error_told (Ok ending) operation error first old new before after json shown end
   some = same_error error some;
 }
 error_told (Err stop) operation error first old new before after json shown ends some = tt
+
+-- where the call has an ID
+pub told_with_id : {E : Type 0} (result : Result Ending E) (operation : Option Operation)
+    (id : Option (List ℕ)) (error : Error) (ended : Ending) (first old new : List ℕ)
+    → TellsTree operation None (Err error) first ended old new
+    → IfOk result (λ ending. ending ≡ ending_for id first ended)
+    → IfOk result (λ ending. TellsTree operation id (Err error) first ending old new)
+told_with_id (Ok ending) operation id error ended first old new tells last = record {
+  told = tells.told;
+  ending_is = last ∙ ap (ending_for id first) tells.ending_is;
+  json = tells.json;
+  some = tells.some;
+}
+told_with_id (Err stop) operation id error ended first old new tells last = tt

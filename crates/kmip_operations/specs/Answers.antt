@@ -1,13 +1,14 @@
 -- What a response answers to a call of an operation and to a message, as a line of JSON.
-use Rattle.std.specs.Prelude.{◌≡◌, ◌≢◌, ℕ, List, [], ◌++◌, take, Option, Some, None, Result, Ok, Err}
+use Rattle.std.specs.Prelude.{◌≡◌, ◌≢◌, ℕ, List, [], ◌++◌, take, Option, Some, None, Result, Ok, Err, if◌then◌else◌}
 use Rattle.kmip_wire.specs.Tree.{Tree}
+use Rattle.kmip_wire.specs.Reading.{item_of}
 use Rattle.kmip_shape.specs.declared.style.Style.TheVariants.{Json}
 use Rattle.kmip_enums.specs.declared.operation.Operation.{Operation}
 use Rattle.kmip_encodings.specs.Encoding.{json_text}
 use Rattle.kmip_client.specs.Operation.{TreeRequest, operation_bytes}
 use Rattle.kmip_client.specs.Message.{message_at, taken_for}
 use Rattle.kmip_client.specs.Outcome.{OutcomeOf, answer_by, outcome_by}
-use Rattle.kmip_client.specs.Untyped.{untyped_answer}
+use Rattle.kmip_client.specs.Untyped.{identified_answer, is_of_other_item}
 use Rattle.kmip_client.specs.WholeMessage.{whole_bytes, whole_answer}
 use Rattle.kmip_client.specs.declared.error.Error.{Error}
 use Rattle.kmip_client.specs.declared.error.Error.TheVariants.{OutOfMemory}
@@ -15,7 +16,7 @@ use Rattle.kmip_words.specs.Exchange.{Settings, value_line}
 use Rattle.kmip_words.specs.Refusal.{failure_line}
 use Rattle.kmip_words.specs.Strays.{error_to, ending_to}
 use Rattle.kmip_words.specs.declared.ending.Ending.{Ending}
-use Rattle.kmip_words.specs.declared.ending.Ending.TheVariants.{Answered}
+use Rattle.kmip_words.specs.declared.ending.Ending.TheVariants.{Answered, Lost}
 use Rattle.kmip_operations.specs.JsonLines.{IsTextLine}
 
 -- the line of JSON of an answer, where `first` is the message that was taken; that of an error
@@ -30,10 +31,16 @@ abbrev pub answer_to : Option Operation → Result Tree Error → List ℕ → R
 answer_to operation (Ok tree) first = Ok tree
 answer_to operation (Err error) first = Err (error_to operation error first)
 
+-- how a call with this Unique Batch Item ID ended that was answered with an error: a message that
+-- is that of a request with another ID belongs to another call, and so may the next message
+abbrev pub ending_for : Option (List ℕ) → List ℕ → Ending → Ending
+ending_for id first ending = if is_of_other_item id (item_of 64 first) then Lost else ending
+
 -- how the call ended
-abbrev pub tree_ending : Option Operation → Result Tree Error → List ℕ → Ending
-tree_ending operation (Ok tree) first = Answered
-tree_ending operation (Err error) first = ending_to operation error first
+abbrev pub tree_ending : Option Operation → Option (List ℕ) → Result Tree Error → List ℕ → Ending
+tree_ending operation id (Ok tree) first = Answered
+tree_ending operation id (Err error) first =
+    ending_for id first (ending_to operation error first)
 
 -- the answer, and the bytes that were taken of a response, are those of the outcome, unless memory
 -- ran out
@@ -42,12 +49,13 @@ IsTreeReply answer first outcome response =
     answer ≢ Err OutOfMemory →
     (answer ≡ outcome.answer) × (first ≡ take outcome.taken response)
 
--- the line of this answer to a call of an operation, or to a message, was added, where `first` is
--- the message that was taken, and the answer is not `OutOfMemory`
-pub record TellsTree (operation : Option Operation) (answer : Result Tree Error) (first : List ℕ)
-    (ending : Ending) (old new : List ℕ) : Type 0 where
+-- the line of this answer to a call of an operation, with this ID, or to a message, was added, where
+-- `first` is the message that was taken, and the answer is not `OutOfMemory`
+pub record TellsTree (operation : Option Operation) (id : Option (List ℕ))
+    (answer : Result Tree Error) (first : List ℕ) (ending : Ending) (old new : List ℕ) :
+    Type 0 where
   pub told : new ≡ old ++ tree_line (answer_to operation answer first) first
-  pub ending_is : ending ≡ tree_ending operation answer first
+  pub ending_is : ending ≡ tree_ending operation id answer first
   pub json : IsTextLine (tree_line (answer_to operation answer first) first)
   pub some : answer ≢ Err OutOfMemory
 
@@ -58,15 +66,15 @@ outcome_line operation outcome response =
     (take outcome.taken response)
 
 -- and how the call ended
-abbrev pub outcome_ending : Option Operation → OutcomeOf Tree → List ℕ → Ending
-outcome_ending operation outcome response =
-    tree_ending operation outcome.answer (take outcome.taken response)
+abbrev pub outcome_ending : Option Operation → Option (List ℕ) → OutcomeOf Tree → List ℕ → Ending
+outcome_ending operation id outcome response =
+    tree_ending operation id outcome.answer (take outcome.taken response)
 
 -- the outcome of a call over these bytes left
 abbrev pub operation_outcome : Settings → TreeRequest → List ℕ → OutcomeOf Tree
 operation_outcome settings request rest =
-    outcome_by (operation_bytes request settings.credential) (untyped_answer request.operation)
-    settings.limit rest
+    outcome_by (operation_bytes request settings.credential)
+    (identified_answer request.operation request.id) settings.limit rest
 
 -- what these bytes answer to a call whose request was sent; nothing more is
 abbrev pub sent_outcome : (List ℕ → Result Tree Error) → Settings → List ℕ → OutcomeOf Tree
@@ -80,13 +88,13 @@ sent_outcome reads settings response = record {
 abbrev pub operation_json_line : Settings → TreeRequest → List ℕ → List ℕ
 operation_json_line settings request response =
     outcome_line (Some request.operation)
-    (sent_outcome (untyped_answer request.operation) settings response) response
+    (sent_outcome (identified_answer request.operation request.id) settings response) response
 
 -- how the call ended that these bytes answer
 abbrev pub operation_ending : Settings → TreeRequest → List ℕ → Ending
 operation_ending settings request response =
-    outcome_ending (Some request.operation)
-    (sent_outcome (untyped_answer request.operation) settings response) response
+    outcome_ending (Some request.operation) request.id
+    (sent_outcome (identified_answer request.operation request.id) settings response) response
 
 -- the same of a message of the caller's; the credential plays no part
 
@@ -100,4 +108,4 @@ message_json_line settings response =
 
 abbrev pub message_ending : Settings → List ℕ → Ending
 message_ending settings response =
-    outcome_ending None (sent_outcome whole_answer settings response) response
+    outcome_ending None None (sent_outcome whole_answer settings response) response

@@ -1,5 +1,5 @@
--- A call of any operation, by the operation's name, a version of KMIP and a payload in JSON; and a
--- message in JSON.
+-- A call of any operation, by the operation's name, a version of KMIP, a Unique Batch Item ID and a
+-- payload in JSON; and a message in JSON.
 use Rattle.std.specs.Prelude.{◌≡◌, ℕ, ◌==◌, ◌&&◌, ◌||◌, Bool, true, false, List, length, codes, Option, Some, None, Ok, if◌then◌else◌, bytes_eq}
 use Rattle.std.specs.Option.{option_and_then, IsSomeAnd}
 use Rattle.json.specs.Json.{document}
@@ -18,8 +18,12 @@ use Rattle.kmip_operations.specs.declared.call.OperationCall.{OperationCall}
 
 -- a call, as kmip_client's contracts see it
 abbrev pub request_of : OperationCall → TreeRequest
-request_of call =
-    record { operation = call.operation; version = call.version; payload = call.payload }
+request_of call = record {
+  operation = call.operation;
+  version = call.version;
+  id = call.id;
+  payload = call.payload;
+}
 
 -- the operation with this name
 abbrev pub operation_named : List ℕ → Option Operation
@@ -71,8 +75,11 @@ IsPayloadText text tree =
 abbrev pub IsMessageText : List ℕ → Tree → Type 0
 IsMessageText = IsStructureText REQUEST_MESSAGE
 
--- the call that a name, a version and a payload in JSON ask for
-pub record Asks (name version payload : List ℕ) (request : TreeRequest) : Type 0 where
+-- the call that a name, a version, a Unique Batch Item ID, where there is one, and a payload in JSON
+-- ask for
+pub record Asks (name version : List ℕ) (id : Option (List ℕ)) (payload : List ℕ)
+    (request : TreeRequest) : Type 0 where
   pub operation_is : operation_named name ≡ Some request.operation
   pub version_is : version_written version ≡ Some request.version
+  pub id_is : id ≡ request.id
   pub payload_is : IsPayloadText payload request.payload

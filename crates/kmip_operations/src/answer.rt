@@ -1,16 +1,17 @@
 //! The line of what a response answers to a call whose payloads are trees.
-ghost use Rattle.std.specs.Prelude.{◌≡◌, ◌++◌, ◌≤◌, [], length, take, Err, IfOk, OnOk, IsUtf8};
+ghost use Rattle.std.specs.Prelude.{◌≡◌, ◌++◌, ◌≤◌, [], length, take, option_map};
+ghost use Rattle.std.specs.Prelude.{None, Err, IfOk, OnOk, IsUtf8};
 ghost use Rattle.kmip_shape.specs.declared.style.Style.TheVariants.{Json};
 ghost use Rattle.kmip_encodings.specs.Encoding.{json_text};
 ghost use Rattle.kmip_words.specs.Exchange.{value_line};
 ghost use Rattle.kmip_operations.specs.Calls.{request_of};
 ghost use Rattle.kmip_operations.specs.Answers.{operation_json_line, operation_ending};
-ghost use Rattle.kmip_operations.specs.Answers.{TellsTree};
+ghost use Rattle.kmip_operations.specs.Answers.{ending_for, TellsTree};
 ghost use Rattle.kmip_operations.specs.JsonLines.{IsTextLine};
 
-use crate::call::OperationCall;
+use crate::call::{OperationCall, id_of};
 use crate::laws::lines_are_json;
-use kmip_client::{Error, Reading, read_operation_response};
+use kmip_client::{Error, Reading, is_of_other_item, read_operation_response};
 use kmip_encodings::to_json;
 use kmip_enums::Operation;
 use kmip_wire::{OutOfMemory, Text, Tree};
@@ -30,9 +31,28 @@ fn push_tree(alloc: Global, tree: &Tree, line: &mut Vec<u8>) -> Result<(), OutOf
     Ok(())
 }
 
-/// Adds an error as a line of JSON, and returns how the call ended. `first` is the message that was
-/// taken, and `operation` that of the call, `None` for a message of the caller's.
-fn push_error(
+/// How a call with this Unique Batch Item ID ended that was answered with an error: lost, where the
+/// message that was taken is that of a request with another ID.
+fn ending_for(
+    alloc: Global,
+    id: Option<&[u8]>,
+    first: &[u8],
+    ending: Ending,
+) -> Result<Ending, OutOfMemory>
+    ensures { IfOk result
+        (λ it. it ≡ ending_for (option_map (λ id. id.now) id.entry) first.now ending) }
+{
+    if is_of_other_item(alloc, id, first)? {
+        Ok(Ending::Lost)
+    } else {
+        Ok(ending)
+    }
+}
+
+/// Adds an error as a line of JSON, and returns how a call ended that has no Unique Batch Item ID.
+/// `first` is the message that was taken, and `operation` that of the call, `None` for a message of
+/// the caller's.
+fn push_error_line(
     alloc: Global,
     operation: Option<Operation>,
     error: &Error,
@@ -40,7 +60,7 @@ fn push_error(
     line: &mut Text,
 ) -> Result<Ending, OutOfMemory>
     ensures { IfOk result
-        (λ ending. TellsTree operation (Err error.now) first.now ending line.old line.new) }
+        (λ ending. TellsTree operation None (Err error.now) first.now ending line.old line.new) }
 {
     lines_are_json();
     line.as_str();
@@ -49,18 +69,36 @@ fn push_error(
     told
 }
 
+/// Adds an error as a line of JSON, and returns how the call ended. `first` is the message that was
+/// taken, and `operation` and `id` those of the call, `None` for a message of the caller's.
+fn push_error(
+    alloc: Global,
+    operation: Option<Operation>,
+    id: Option<&[u8]>,
+    error: &Error,
+    first: &[u8],
+    line: &mut Text,
+) -> Result<Ending, OutOfMemory>
+    ensures { IfOk result (λ ending. TellsTree operation (option_map (λ id. id.now) id.entry)
+        (Err error.now) first.now ending line.old line.new) }
+{
+    let ended = push_error_line(alloc, operation, error, first, line)?;
+    ending_for(alloc, id, first, ended)
+}
+
 /// Adds the line of what a call is answered with, and returns how the call ended. `first` is the
-/// message that was taken, and `operation` that of the call, `None` for a message of the caller's.
-/// Its only error is `OutOfMemory`; then a part of the line may have been added.
+/// message that was taken, and `operation` and `id` those of the call, `None` for a message of the
+/// caller's. Its only error is `OutOfMemory`; then a part of the line may have been added.
 fn push_answer(
     alloc: Global,
     operation: Option<Operation>,
+    id: Option<&[u8]>,
     answer: Result<Tree, Error>,
     first: &[u8],
     line: &mut Vec<u8>,
 ) -> Result<Ending, OutOfMemory>
-    ensures { IfOk result
-        (λ ending. TellsTree operation answer first.now ending line.old.items line.new.items) }
+    ensures { IfOk result (λ ending. TellsTree operation (option_map (λ id. id.now) id.entry) answer
+        first.now ending line.old.items line.new.items) }
 {
     lines_are_json();
     match answer {
@@ -71,7 +109,7 @@ fn push_answer(
         }
         Err(error) => {
             let mut text = Text::new(alloc);
-            let ending = push_error(alloc, operation, &error, first, &mut text)?;
+            let ending = push_error(alloc, operation, id, &error, first, &mut text)?;
             line.extend_from_slice(text.as_str().as_bytes())?;
             Ok(ending)
         }
@@ -87,21 +125,22 @@ pub struct TreeAnswer {
     pub line: Vec<u8>,
 }
 
-/// How a call of this operation ended with this reading of a response, and its line; of a message
-/// of the caller's where `operation` is `None`.
+/// How a call of this operation, with this Unique Batch Item ID, ended with this reading of a
+/// response, and its line; of a message of the caller's where both are `None`.
 pub fn told(
     alloc: Global,
     operation: Option<Operation>,
+    id: Option<&[u8]>,
     reading: Reading<Tree>,
     response: &[u8],
 ) -> Result<TreeAnswer, OutOfMemory>
     requires { reading.taken ≤ length response.now }
-    ensures { IfOk result (λ answer. TellsTree operation reading.answer
-        (take reading.taken response.now) answer.ending [] answer.line.items) }
+    ensures { IfOk result (λ answer. TellsTree operation (option_map (λ id. id.now) id.entry)
+        reading.answer (take reading.taken response.now) answer.ending [] answer.line.items) }
 {
     let Reading { answer, taken } = reading;
     let mut line = Vec::new(alloc);
-    let ending = push_answer(alloc, operation, answer, &response[..taken], &mut line)?;
+    let ending = push_answer(alloc, operation, id, answer, &response[..taken], &mut line)?;
     Ok(TreeAnswer { ending, line })
 }
 
@@ -120,7 +159,10 @@ pub fn told(
 /// A response that is none to the call belongs to another one, and so may the next response: the
 /// call ended as `Lost`. Such is one that is no response message of one batch item, one that names
 /// another operation, and a success that names none. The line of a failure of another operation has
-/// the error `InternalError`, and a text that names both operations.
+/// the error `InternalError`, and a text that names both operations. Where the call has a Unique
+/// Batch Item ID, such is also one that has another or none, and its line has the error
+/// `InternalError`; but a failure that names no operation and has no ID is the call's, since so a
+/// server fails that could not read the request.
 pub fn operation_answer(
     alloc: Global,
     settings: &Settings,
@@ -133,6 +175,7 @@ pub fn operation_answer(
         operation_ending settings.now (request_of call.now) response.now) }
     ensures json { IfOk result (λ answer. IsTextLine answer.line.items) }
 {
-    let reading = read_operation_response(alloc, call.operation, response, settings.limit());
-    told(alloc, Some(call.operation), reading, response)
+    let id = id_of(call);
+    let reading = read_operation_response(alloc, call.operation, id, response, settings.limit());
+    told(alloc, Some(call.operation), id, reading, response)
 }

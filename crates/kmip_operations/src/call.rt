@@ -1,5 +1,6 @@
-//! A call of any operation, by the operation's name, a version of KMIP and a payload in JSON.
-ghost use Rattle.std.specs.Prelude.{◌≡◌, IfOk, MatchOption, Result};
+//! A call of any operation, by the operation's name, a version of KMIP, a Unique Batch Item ID and a
+//! payload in JSON.
+ghost use Rattle.std.specs.Prelude.{◌≡◌, IfOk, MatchOption, Result, option_map};
 ghost use Rattle.kmip_wire.specs.Tree.{Tree as TheTree, trees_of};
 ghost use Rattle.kmip_client.specs.Operation.{TreeRequest};
 ghost use Rattle.kmip_operations.specs.Calls.{operation_named, version_written, is_structure};
@@ -10,7 +11,7 @@ use kmip_client::Version;
 use kmip_encodings::{EncodingError, enumeration_number, from_json};
 use kmip_enums::{Enumeration, Operation};
 use kmip_tags::tags::{OPERATION, REQUEST_PAYLOAD, UNIQUE_IDENTIFIER};
-use kmip_wire::{Node, OutOfMemory, Tag, Tree};
+use kmip_wire::{Blob, Node, OutOfMemory, Tag, Tree};
 use std::alloc::Global;
 
 /// A call of an operation.
@@ -20,8 +21,30 @@ pub struct OperationCall {
     pub operation: Operation,
     /// The version of KMIP that the request names.
     pub version: Version,
+    /// The Unique Batch Item ID of the request, if it has one, which the response must have too.
+    pub id: Option<Blob>,
     /// The payload of the request.
     pub payload: Tree,
+}
+
+/// The Unique Batch Item ID of a call's request, if it has one.
+pub(crate) fn id_of(call: &OperationCall) -> Option<&[u8]>
+    ensures { option_map (λ id. id.now) result ≡ call.now.id }
+{
+    match &call.id {
+        Some(id) => Some(id.as_slice()),
+        None => None,
+    }
+}
+
+/// A copy of an ID that may be absent.
+fn copy_id(alloc: Global, id: Option<&[u8]>) -> Result<Option<Blob>, OutOfMemory>
+    ensures { IfOk result (λ copy. copy ≡ option_map (λ id. id.now) id.entry) }
+{
+    match id {
+        Some(id) => Ok(Some(Blob::of(alloc, id)?)),
+        None => Ok(None),
+    }
 }
 
 /// The operation with this name, as `Encrypt`, `MACVerify` or `Rekey`. It takes no memory.
@@ -117,16 +140,20 @@ pub(crate) fn payload_of(alloc: Global, text: &str) -> Result<Option<Tree>, OutO
 /// tag `RequestPayload`, as kmip_encodings reads it: any of the names, types and values that it
 /// has, in at most 64 levels, and with no empty Unique Identifier anywhere in it, which a server may
 /// take for that of another object: who means one sends a message. `None` exactly where one of the
-/// three is not so.
+/// three is not so. `id` is the Unique Batch Item ID of the request (KMIP 1.0, 6.4), whatever its
+/// bytes; `operation_answer` says which responses are then the call's.
 pub fn operation_call(
     alloc: Global,
     name: &str,
     version: &str,
+    id: Option<&[u8]>,
     payload: &str,
 ) -> Result<Option<OperationCall>, OutOfMemory>
     ensures { IfOk result (λ call. MatchOption call
-        ((request : TreeRequest) → Asks name.now version.now payload.now request → ⊥)
-        (λ call. Asks name.now version.now payload.now (request_of call))) }
+        ((request : TreeRequest) →
+        Asks name.now version.now (option_map (λ id. id.now) id.entry) payload.now request → ⊥)
+        (λ call. Asks name.now version.now (option_map (λ id. id.now) id.entry) payload.now
+        (request_of call))) }
 {
     let Some(operation) = operation_named(name) else {
         return Ok(None);
@@ -137,9 +164,11 @@ pub fn operation_call(
     let Some(payload) = payload_of(alloc, payload)? else {
         return Ok(None);
     };
+    let id = copy_id(alloc, id)?;
     Ok(Some(OperationCall {
         operation,
         version,
+        id,
         payload,
     }))
 }

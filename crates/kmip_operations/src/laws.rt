@@ -35,14 +35,14 @@ pub fn responses_are_outcomes()
         operation_json_line settings request rest }
     ensures operation_ending { (settings : TheSettings) (request : TreeRequest) (rest : List ℕ) →
         IsSome (operation_bytes request settings.credential) →
-        outcome_ending (Some request.operation) (operation_outcome settings request rest) rest ≡
-        operation_ending settings request rest }
+        outcome_ending (Some request.operation) request.id
+        (operation_outcome settings request rest) rest ≡ operation_ending settings request rest }
     ensures message_line { (settings : TheSettings) (message : Tree) (rest : List ℕ) →
         IsSome (whole_bytes message) →
         outcome_line None (message_outcome settings message rest) rest ≡
         message_json_line settings rest }
     ensures message_ending { (settings : TheSettings) (message : Tree) (rest : List ℕ) →
         IsSome (whole_bytes message) →
-        outcome_ending None (message_outcome settings message rest) rest ≡
+        outcome_ending None None (message_outcome settings message rest) rest ≡
         message_ending settings rest }
 {}

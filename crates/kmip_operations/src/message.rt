@@ -50,5 +50,5 @@ pub fn message_answer(
     ensures json { IfOk result (λ answer. IsTextLine answer.line.items) }
 {
     let reading = read_whole_message(alloc, response, settings.limit());
-    told(alloc, None, reading, response)
+    told(alloc, None, None, reading, response)
 }

@@ -3,8 +3,8 @@ ghost use Rattle.std.specs.Prelude.{◌≡◌, IfOk};
 ghost use Rattle.kmip_client.specs.Operation.{operation_bytes};
 ghost use Rattle.kmip_operations.specs.Calls.{request_of};
 
-use crate::call::OperationCall;
-use kmip_client::write_operation_request;
+use crate::call::{OperationCall, id_of};
+use kmip_client::{OperationRequest, write_operation_request};
 use kmip_wire::{Blob, OutOfMemory};
 use kmip_words::{Settings, bytes_if_any};
 use std::alloc::Global;
@@ -19,11 +19,11 @@ pub fn operation_request(
     ensures { IfOk result
         (λ request. request ≡ operation_bytes (request_of call.now) settings.now.credential) }
 {
-    bytes_if_any(write_operation_request(
-        alloc,
-        call.operation,
-        call.version,
-        &call.payload,
-        settings.authentication(),
-    ))
+    let request = OperationRequest {
+        operation: call.operation,
+        version: call.version,
+        id: id_of(call),
+        payload: &call.payload,
+    };
+    bytes_if_any(write_operation_request(alloc, &request, settings.authentication()))
 }

@@ -35,4 +35,4 @@ pub use laws::{distinct_requests, tables_stand};
 pub use message::{BatchItem, RequestMessage};
 pub use numbers::{BatchCount, MaximumResponseSize, ProtocolVersionMajor, ProtocolVersionMinor};
 pub use payload::RequestPayload;
-pub use writing::{to_vec, write_request, write_request_into};
+pub use writing::{header_len, to_vec, write_header, write_request, write_request_into};

@@ -23,15 +23,16 @@ use kmip_types::auth;
 use kmip_wire::{Blob, Buffer, Tag, WireError};
 use std::alloc::Global;
 
-/// The length in bytes of the header of a message with one batch item. The credential is borrowed.
-fn header_len(version: &ProtocolVersion, authentication: &Option<Authentication>) -> Option<u64>
+/// The length in bytes of the header of a request with one batch item and no maximum response size:
+/// KMIP 1.0, 7.2. `None` exactly where it reaches 2^32 bytes. The credential is borrowed.
+pub fn header_len(version: &ProtocolVersion, authentication: &Option<Authentication>) -> Option<u64>
     ensures { result ≡ wire_len_of request_header (lent_header_val version.now authentication.now) }
 {
     record_len::<RequestHeaderRows>(fields![version, &None, authentication, &BatchCount(1)])
 }
 
-/// Appends that header.
-fn write_header(
+/// Appends that header, for which the buffer has room.
+pub fn write_header(
     version: &ProtocolVersion,
     authentication: &Option<Authentication>,
     out: &mut Buffer,

@@ -116,7 +116,7 @@ calls =
     ∷ call (codes "raw") (word (codes "HEX") Request ∷ []) Options
     ([])
     ∷ call (codes "operation") (word (codes "NAME") Operation ∷ word (codes "PAYLOAD") Payload ∷ []) Nothing
-    (option (codes "version=") Version ∷ [])
+    (option (codes "version=") Version ∷ option (codes "item-id=") Hex ∷ [])
     ∷ call (codes "message") (word (codes "MESSAGE") Message ∷ []) Nothing
     ([])
     ∷ []

@@ -463,11 +463,18 @@ const CALLS: &[CallRow] = &[
         name: "operation",
         words: &[OPERATION, PAYLOAD],
         rest: Rest::Nothing,
-        options: &[OptionRow {
-            name: "version=",
-            kind: Kind::Version,
-            is_needed: false,
-        }],
+        options: &[
+            OptionRow {
+                name: "version=",
+                kind: Kind::Version,
+                is_needed: false,
+            },
+            OptionRow {
+                name: "item-id=",
+                kind: Kind::Hex,
+                is_needed: false,
+            },
+        ],
         help: "any operation of KMIP, by its name, with its payload in JSON",
     },
     CallRow {

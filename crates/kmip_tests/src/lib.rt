@@ -12,6 +12,8 @@ mod client;
 #[cfg(test)]
 mod helpers;
 #[cfg(test)]
+mod item_ids;
+#[cfg(test)]
 mod keys;
 #[cfg(test)]
 mod messages;

@@ -1,6 +1,6 @@
 //! Any operation by its tree, over links that hold its answer.
 use crate::helpers::{bytes_of, client_fed, fails_with, is_sent, text, tree_of};
-use kmip_client::{Client, ClientBuilder, Result, Version};
+use kmip_client::{Client, ClientBuilder, OperationRequest, Result, Version};
 use kmip_enums::Operation;
 use kmip_link::MemoryLink;
 use kmip_tags::tags::REQUEST_PAYLOAD;
@@ -23,7 +23,13 @@ fn encrypt(
     payload: &str,
 ) -> Result<Tree> {
     let payload = tree_of(rt, alloc, payload);
-    client.do_operation(alloc, Operation::Encrypt, version, &payload)
+    let request = OperationRequest {
+        operation: Operation::Encrypt,
+        version,
+        id: None,
+        payload: &payload,
+    };
+    client.do_operation(alloc, &request)
 }
 
 /// This response answers this payload.
@@ -289,7 +295,13 @@ fn a_payload_without_a_form_is_not_sent(rt: HostRuntime) {
         node: Node::BigInteger(three),
     };
     let mut client = client_fed(&rt, alloc, "RES2(7F e1)");
-    let answer = client.do_operation(alloc, Operation::Encrypt, Version::V1_2, &payload);
+    let request = OperationRequest {
+        operation: Operation::Encrypt,
+        version: Version::V1_2,
+        id: None,
+        payload: &payload,
+    };
+    let answer = client.do_operation(alloc, &request);
     let expected = "Serialize error: request has no wire form";
     fails_with(&rt, alloc, answer, expected);
     assert!(&rt; client.inner().sent().is_empty());

@@ -2,9 +2,10 @@
 use Rattle.std.proofs.Common.{◌≡◌, refl, sym, ap, ◌∙◌, arith, ℕ, zero, suc, ◌+◌, ◌-◌, ◌/◌, ◌%◌, ◌≤◌, nat_le, ◌==◌, ◌&&◌, not, nat_lt, Bool, true, false, cond, ℤ, pos, negsuc, List, [], ◌∷◌, ◌++◌, Option, Some, None, codes}
 use Rattle.std.proofs.lemmas.Bool.{false≢true}
 use Rattle.std.proofs.lemmas.Bool.Decides.{nat_tests}
-use Rattle.std.specs.List.{All, list_all, slice_get, slice_index}
+use Rattle.std.specs.List.{All, list_all, slice_get, slice_index, join_by}
+use Rattle.std.specs.Prelude.{bit_and, bit_xor, flat_map}
 use Rattle.std.specs.Fmt.{digits, digits_onto, digit_glyph, decimal, signed_decimal}
-use Rattle.std.specs.Int.{w32, w64, cast_signed, cast_unsigned}
+use Rattle.std.specs.Int.{w32, w64, to_be_bytes, cast_signed, cast_unsigned}
 use lib.Utf8.{next}
 use Rattle.std.specs.Char.{encode_utf8}
 use Rattle.std.specs.Str.{chars}
@@ -20,7 +21,9 @@ use Rattle.kmip_tags.specs.Names.{name_of}
 use Rattle.kmip_diag.specs.Lines.{name_text}
 use Rattle.kmip_encodings.specs.Lines.{Line, lines}
 use Rattle.kmip_encodings.specs.Names.{name_in, enumeration_name}
-use Rattle.kmip_web.specs.Listing.{escaped_char, escaped, flag_text, named, usage_names, storage_names, bit_names, bits_text, value_text}
+use Rattle.kmip_encodings.specs.Masks.{Bit, cryptographic_usage_bits, storage_status_bits, is_mask, mask_bits}
+use Rattle.kmip_encodings.specs.Texts.{hex_text, mask_parts, bits_text, mask_text}
+use Rattle.kmip_web.specs.Listing.{escaped_char, escaped, flag_text, named, value_text}
 use Rattle.kmip_web.specs.Input.{is_feed}
 use Rattle.kmip_web.specs.Split.{is_tab}
 
@@ -194,21 +197,73 @@ number_fits tag number = in_lines lines tag number all_lines_fit
 
 -- ---- masks
 
-bits_fit : (all : List (List ℕ)) (n : ℕ) → list_all (λ name. list_all fits name) all ≡ true
-    → Fits (bits_text all n)
-bits_fit [] n h = refl
-bits_fit (name ∷ all) n h =
-    append (cond (n % 2 == 1) (codes " " ++ name) []) (bits_text all (n / 2))
-    (if_fits (n % 2 == 1) (codes " " ++ name) [] (spaced name (first (list_all fits name) (list_all (λ x. list_all fits x) all) h)) refl)
-    (bits_fit all (n / 2) (second (list_all fits name) (list_all (λ x. list_all fits x) all) h))
+zero_x : Fits (codes "0x")
+zero_x = refl
 
-mask_fits : (tag : ℕ) → list_all (λ name. list_all fits name) (bit_names tag) ≡ true
-mask_fits tag = by (tag == tags.CRYPTOGRAPHIC_USAGE_MASK) (tag == tags.STORAGE_STATUS_MASK)
+usage_fits : list_all (λ bit. list_all fits bit.1) cryptographic_usage_bits ≡ true
+unfolding cryptographic_usage_bits
+usage_fits = refl
+
+storage_fits : list_all (λ bit. list_all fits bit.1) storage_status_bits ≡ true
+unfolding storage_status_bits
+storage_fits = refl
+
+bits_fit : (tag : ℕ) → list_all (λ bit. list_all fits bit.1) (mask_bits tag) ≡ true
+bits_fit tag = by (tag == tags.CRYPTOGRAPHIC_USAGE_MASK) (tag == tags.STORAGE_STATUS_MASK)
   where
-    by : (a b : Bool) → list_all (λ name. list_all fits name) (cond a usage_names (cond b storage_names [])) ≡ true
-    by true b = refl
-    by false true = refl
+    by : (a b : Bool) → list_all (λ bit. list_all fits bit.1) (cond a cryptographic_usage_bits (cond b storage_status_bits [])) ≡ true
+    by true b = usage_fits
+    by false true = storage_fits
     by false false = refl
+
+left_fits : (n : ℕ) → Fits (hex_text (to_be_bytes w32 n))
+left_fits n = append (codes "0x") (encode_upper (to_be_bytes w32 n)) zero_x (hex_fits (to_be_bytes w32 n))
+
+abbrev AllFit : List (List ℕ) → Type 0
+AllFit parts = list_all (λ part. list_all fits part) parts ≡ true
+
+all_if : (b : Bool) (xs ys : List (List ℕ)) → AllFit xs → AllFit ys → AllFit (cond b xs ys)
+all_if true xs ys h k = h
+all_if false xs ys h k = k
+
+parts_fit : (bits : List Bit) (n : ℕ) → list_all (λ bit. list_all fits bit.1) bits ≡ true
+    → AllFit (mask_parts bits n)
+parts_fit [] n h =
+    let left = hex_text (to_be_bytes w32 n) in
+    all_if (n == 0) [] (left ∷ []) refl (both (list_all fits left) true (left_fits n) refl)
+parts_fit (bit ∷ bits) n h =
+    let fit : list_all fits bit.1 ≡ true = first (list_all fits bit.1) (list_all (λ b. list_all fits b.1) bits) h in
+    let later = second (list_all fits bit.1) (list_all (λ b. list_all fits b.1) bits) h in
+    let rest = mask_parts bits (bit_xor n bit.0) in
+    all_if (bit_and n bit.0 == bit.0) (bit.1 ∷ rest) (mask_parts bits n)
+    (both (list_all fits bit.1) (list_all (λ part. list_all fits part) rest) fit
+    (parts_fit bits (bit_xor n bit.0) later))
+    (parts_fit bits n later)
+
+more_fit : (parts : List (List ℕ)) → AllFit parts → Fits (flat_map (λ part. codes " " ++ part) parts)
+more_fit [] h = refl
+more_fit (part ∷ parts) h =
+    append (codes " " ++ part) (flat_map (λ p. codes " " ++ p) parts)
+    (spaced part (first (list_all fits part) (list_all (λ p. list_all fits p) parts) h))
+    (more_fit parts (second (list_all fits part) (list_all (λ p. list_all fits p) parts) h))
+
+joined_fit : (parts : List (List ℕ)) → AllFit parts → Fits (join_by (λ s. s) (codes " ") parts)
+joined_fit [] h = refl
+joined_fit (part ∷ parts) h =
+    append part (flat_map (λ p. codes " " ++ p) parts)
+    (first (list_all fits part) (list_all (λ p. list_all fits p) parts) h)
+    (more_fit parts (second (list_all fits part) (list_all (λ p. list_all fits p) parts) h))
+
+mask_fits : (tag : ℕ) (z : ℤ) → Fits (named (mask_text (codes " ") tag z))
+unfolding mask_text
+mask_fits tag z = by (is_mask tag) (cast_unsigned w32 z == 0)
+  where
+    by : (a b : Bool) → Fits (named (cond a (cond b None (Some (bits_text (codes " ") tag (cast_unsigned w32 z)))) None))
+    by true true = refl
+    by true false = spaced (bits_text (codes " ") tag (cast_unsigned w32 z))
+        (joined_fit (mask_parts (mask_bits tag) (cast_unsigned w32 z))
+        (parts_fit (mask_bits tag) (cast_unsigned w32 z) (bits_fit tag)))
+    by false b = refl
 
 -- ---- values
 
@@ -216,12 +271,9 @@ flag_fits : (flag : Bool) → Fits (flag_text flag)
 flag_fits true = refl
 flag_fits false = refl
 
-zero_x : Fits (codes "0x")
-zero_x = refl
-
 pub value_fits : (tag : ℕ) (s : Scalar) → Fits (value_text tag s)
-value_fits tag (integer z) = append (signed_decimal z) (bits_text (bit_names tag) (cast_unsigned w32 z)) (signed_fit z)
-    (bits_fit (bit_names tag) (cast_unsigned w32 z) (mask_fits tag))
+value_fits tag (integer z) = append (signed_decimal z) (named (mask_text (codes " ") tag z)) (signed_fit z)
+    (mask_fits tag z)
 value_fits tag (long_integer z) = signed_fit z
 value_fits tag (big_integer b) = hex_fits b
 value_fits tag (enumeration n) = append (codes "0x") (digits 16 true n ++ named (enumeration_name tag n)) zero_x

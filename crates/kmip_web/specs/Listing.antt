@@ -1,9 +1,9 @@
 -- The items of any bytes with their values, one a line.
-use Rattle.std.specs.Prelude.{ℕ, ◌+◌, ◌/◌, ◌%◌, ◌==◌, ◌&&◌, Bool, true, List, [], ◌∷◌, ◌++◌, Option, Some, None, codes, if◌then◌else◌, nat_le, not}
+use Rattle.std.specs.Prelude.{ℕ, ◌+◌, ◌==◌, ◌&&◌, Bool, true, List, [], ◌∷◌, ◌++◌, Option, Some, None, codes, if◌then◌else◌, nat_le, not}
 use Rattle.std.specs.Char.{encode_utf8}
 use Rattle.std.specs.Str.{chars}
 use Rattle.std.specs.Fmt.{decimal, digits, signed_decimal}
-use Rattle.std.specs.Int.{w32, w64, cast_signed, cast_unsigned}
+use Rattle.std.specs.Int.{w64, cast_signed}
 use Rattle.hex.specs.Hex.{encode_upper}
 use Rattle.kmip_wire.specs.declared.kind.Kind.{Kind}
 use Rattle.kmip_wire.specs.declared.kind.Kind.TheVariants.{Structure}
@@ -13,6 +13,7 @@ use Rattle.kmip_tags.specs.Tags as tags
 use Rattle.kmip_tags.specs.Names.{name_of}
 use Rattle.kmip_encodings.specs.Context.{place, named_after}
 use Rattle.kmip_encodings.specs.Names.{enumeration_name}
+use Rattle.kmip_encodings.specs.Texts.{mask_text}
 use Rattle.kmip_wire.specs.Names.{kind_name}
 use Rattle.kmip_diag.specs.Lines.{name_text}
 use Rattle.kmip_diag.specs.Diagnostic.{Shown, ended, stopped, item, cut_off, shown_within}
@@ -38,37 +39,11 @@ abbrev pub named : Option (List ℕ) → List ℕ
 named None = []
 named (Some name) = codes " " ++ name
 
--- the names of a mask's bits, from the lowest on
-abbrev pub usage_names : List (List ℕ)
-usage_names =
-    codes "Sign" ∷ codes "Verify" ∷ codes "Encrypt" ∷ codes "Decrypt" ∷ codes "WrapKey"
-    ∷ codes "UnwrapKey" ∷ codes "Export" ∷ codes "MACGenerate" ∷ codes "MACVerify"
-    ∷ codes "DeriveKey" ∷ codes "ContentCommitmentNonRepudiation" ∷ codes "KeyAgreement"
-    ∷ codes "CertificateSign" ∷ codes "CRLSign" ∷ codes "GenerateCryptogram"
-    ∷ codes "ValidateCryptogram" ∷ codes "TranslateEncrypt" ∷ codes "TranslateDecrypt"
-    ∷ codes "TranslateWrap" ∷ codes "TranslateUnwrap" ∷ []
-
-abbrev pub storage_names : List (List ℕ)
-storage_names = codes "OnLineStorage" ∷ codes "ArchivalStorage" ∷ []
-
-abbrev pub bit_names : ℕ → List (List ℕ)
-bit_names tag =
-    if tag == tags.CRYPTOGRAPHIC_USAGE_MASK then usage_names
-    else if tag == tags.STORAGE_STATUS_MASK then storage_names
-    else []
-
-abbrev pub bit_text : Bool → List ℕ → List ℕ
-bit_text is_set name = if is_set then codes " " ++ name else []
-
--- the names of the bits that are set in a number, with a space before each
-abbrev pub bits_text : List (List ℕ) → ℕ → List ℕ
-bits_text [] n = []
-bits_text (name ∷ names) n = bit_text (n % 2 == 1) name ++ bits_text names (n / 2)
-
 -- the value of an item whose names are looked up under the tag: numbers in decimal, a mask's with
--- the names of its bits, an enumeration's in hex with its name, bytes as hex digits
+-- the names of its bits and in hex those that have none, an enumeration's in hex with its name, bytes
+-- as hex digits
 abbrev pub value_text : ℕ → Scalar → List ℕ
-value_text tag (integer z) = signed_decimal z ++ bits_text (bit_names tag) (cast_unsigned w32 z)
+value_text tag (integer z) = signed_decimal z ++ named (mask_text (codes " ") tag z)
 value_text tag (long_integer z) = signed_decimal z
 value_text tag (big_integer b) = encode_upper b
 value_text tag (enumeration n) =

@@ -24,7 +24,6 @@ mod input;
 mod json;
 mod laws;
 mod listing;
-mod masks;
 mod report;
 mod values;
 

@@ -10,8 +10,9 @@ ghost use Rattle.kmip_shape.specs.Writes.{len_of};
 ghost use Rattle.kmip_encodings.specs.Sizes.{size_of, sizes_of};
 ghost use Rattle.kmip_web.specs.Listing.{head_text, listed, all_listed, listing};
 
-use crate::context::{named_after, place};
+use crate::context::named_after;
 use crate::values::push_value;
+use kmip_encodings::place;
 use kmip_faults::{Step, step_at};
 use kmip_tags::{name_of, tags};
 use kmip_wire::{Children, ItemRef, Kind, OutOfMemory, Tag, Text};

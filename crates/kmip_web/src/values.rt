@@ -1,15 +1,15 @@
 //! The values of items as text.
 ghost use Rattle.std.specs.Fmt.{signed_decimal};
-ghost use Rattle.std.specs.Prelude.{◌≡◌, ◌++◌, ◌∷◌, [], IfOk, option_map};
+ghost use Rattle.std.specs.Prelude.{◌≡◌, ◌++◌, ◌∷◌, [], codes, IfOk, option_map};
 ghost use Rattle.std.specs.Str.{chars};
 ghost use Rattle.hex.specs.Hex.{encode_upper};
 ghost use Rattle.kmip_wire.specs.Tree.{integer, enumeration};
 ghost use Rattle.kmip_wire.specs.Parts.{scalar_in};
 ghost use Rattle.kmip_wire.specs.Items.{item_tree};
-ghost use Rattle.kmip_web.specs.Listing.{is_plain, escaped_char, escaped, value_text};
+ghost use Rattle.kmip_encodings.specs.Texts.{mask_text};
+ghost use Rattle.kmip_web.specs.Listing.{is_plain, named, escaped_char, escaped, value_text};
 
-use crate::masks::{bit_names, push_bits};
-use kmip_encodings::enumeration_name;
+use kmip_encodings::{enumeration_name, mask_text};
 use kmip_wire::{ItemRef, OutOfMemory, Tag, Text};
 use std::alloc::Global;
 
@@ -37,12 +37,27 @@ fn push_short(alloc: Global, text: &mut Text, number: i32) -> Result<(), OutOfMe
     push_signed(alloc, text, number as i64)
 }
 
-/// Adds a number, and of a mask the names of its bits.
+/// Adds of a mask a space, the names of its bits and in hex those that have none; nothing of 0, and of
+/// what is no mask.
+fn push_mask(alloc: Global, text: &mut Text, tag: Tag, number: i32) -> Result<(), OutOfMemory>
+    ensures { IfOk result (λ _. text.new ≡ text.old ++ named (mask_text (codes " ") tag number)) }
+{
+    match mask_text(alloc, " ", tag, number)? {
+        Some(names) => {
+            text.push_str(" ")?;
+            text.push_str(names.as_str())?;
+            Ok(())
+        }
+        None => Ok(()),
+    }
+}
+
+/// Adds a number, and of a mask the names of its bits and in hex those that have none.
 fn push_integer(alloc: Global, text: &mut Text, tag: Tag, number: i32) -> Result<(), OutOfMemory>
     ensures { IfOk result (λ _. text.new ≡ text.old ++ value_text tag (integer number)) }
 {
     push_short(alloc, text, number)?;
-    push_bits(text, bit_names(tag), number.cast_unsigned())?;
+    push_mask(alloc, text, tag, number)?;
     Ok(())
 }
 

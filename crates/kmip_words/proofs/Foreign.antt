@@ -5,8 +5,8 @@ use Rattle.kmip_tags.specs.Tags.{OPERATION}
 use Rattle.kmip_wire.specs.Tree.{Tree}
 use Rattle.kmip_enums.specs.declared.operation.Operation.{Operation}
 use Rattle.kmip_client.specs.Check.{mismatch_text}
-use Rattle.kmip_client.specs.Untyped.{number_under}
-use Rattle.kmip_words.specs.Strays.{reports_failure, is_item_of, sole_item, operation_told, other_failure}
+use Rattle.kmip_client.specs.Untyped.{number_under, reports_failure, sole_item}
+use Rattle.kmip_words.specs.Strays.{is_item_of, operation_told, other_failure}
 
 pub foreign : (operation : Operation) (front : Option Tree) (message item : Tree) → front ≡ Some message
     → sole_item message ≡ Some item → reports_failure item ≡ true → is_item_of operation item ≡ false

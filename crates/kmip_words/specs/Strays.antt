@@ -3,7 +3,7 @@
 use Rattle.std.specs.Prelude.{ℕ, List, [], ◌++◌, ◌==◌, length, Bool, true, false, not, ◌&&◌, ◌||◌, Option, Some, None, Err, if◌then◌else◌, codes}
 use Rattle.std.specs.Option.{option_and_then}
 use Rattle.std.specs.Fmt.{decimal}
-use Rattle.kmip_tags.specs.Tags.{BATCH_ITEM, OPERATION, RESPONSE_MESSAGE, RESULT_STATUS}
+use Rattle.kmip_tags.specs.Tags.{OPERATION}
 use Rattle.kmip_wire.specs.Tree.{Tree}
 use Rattle.kmip_wire.specs.Reading.{item_of}
 use Rattle.kmip_shape.specs.Val.{Val}
@@ -11,21 +11,12 @@ use Rattle.kmip_shape.specs.Enumerations.{variant_at}
 use Rattle.kmip_enums.specs.Operations.{operation_line, operation_variants}
 use Rattle.kmip_enums.specs.declared.operation.Operation.{Operation}
 use Rattle.kmip_client.specs.Check.{mismatch_text}
-use Rattle.kmip_shape.specs.Shape.{has_tag}
-use Rattle.kmip_client.specs.Untyped.{all_under, one_under, number_under, names, counts_one}
+use Rattle.kmip_client.specs.Untyped.{all_under, number_under, names, reports_failure, sole_item}
 use Rattle.kmip_client.specs.declared.error.Error.{Error}
 use Rattle.kmip_client.specs.declared.error.Error.TheVariants.{InternalError}
 use Rattle.kmip_words.specs.Exchange.{error_ending}
 use Rattle.kmip_words.specs.declared.ending.Ending.{Ending}
 use Rattle.kmip_words.specs.declared.ending.Ending.TheVariants.{Lost}
-
--- whether a status is the enumeration's number 1, Operation Failed (KMIP 1.0, 9.1.3.2.27)
-abbrev pub is_failed : Option ℕ → Bool
-is_failed (Some status) = status == 1
-is_failed None = false
-
-abbrev pub reports_failure : Tree → Bool
-reports_failure item = is_failed (number_under RESULT_STATUS item)
 
 -- whether a batch item is that of an operation: it names it; or it reports failure and names none,
 -- as one does where the server could not read the request
@@ -33,12 +24,6 @@ abbrev pub is_item_of : Operation → Tree → Bool
 is_item_of operation item =
     names operation (number_under OPERATION item)
     || (reports_failure item && length (all_under OPERATION item) == 0)
-
--- the batch item of a response message that has one, and whose header counts one
-abbrev pub sole_item : Tree → Option Tree
-sole_item message =
-    if has_tag RESPONSE_MESSAGE message && counts_one message then one_under BATCH_ITEM message
-    else None
 
 abbrev pub is_stray_item : Operation → Option Tree → Bool
 is_stray_item operation (Some item) = not (is_item_of operation item)

@@ -4,10 +4,10 @@ ghost use Rattle.std.specs.Option.{option_and_then};
 ghost use Rattle.kmip_wire.specs.Items.{item_tree};
 ghost use Rattle.kmip_wire.specs.Reading.{item_of};
 ghost use Rattle.kmip_client.specs.Check.{mismatch_text};
-ghost use Rattle.kmip_client.specs.Untyped.{counts_one};
+ghost use Rattle.kmip_client.specs.Untyped.{counts_one, reports_failure, sole_item};
 ghost use Rattle.kmip_words.specs.Refusal.{failure_line};
-ghost use Rattle.kmip_words.specs.Strays.{reports_failure, is_item_of, sole_item, is_stray};
-ghost use Rattle.kmip_words.specs.Strays.{ending_to, operation_told, other_failure, error_to};
+ghost use Rattle.kmip_words.specs.Strays.{is_item_of, is_stray, ending_to};
+ghost use Rattle.kmip_words.specs.Strays.{operation_told, other_failure, error_to};
 
 use crate::ending::Ending;
 use crate::items::{has_none_under, number_under, one_under};

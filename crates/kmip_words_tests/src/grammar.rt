@@ -246,7 +246,7 @@ const SAID: &[(&str, &str)] = &[
     ),
     (
         "operation Encrypt",
-        "the words are not those of operation NAME [version=] PAYLOAD",
+        "the words are not those of operation NAME [version=] [item-id=] PAYLOAD",
     ),
 ];
 

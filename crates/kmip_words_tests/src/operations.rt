@@ -18,7 +18,7 @@ fn call_if_any(
     version: &str,
     payload: &str,
 ) -> Option<OperationCall> {
-    operation_call(alloc, name, version, payload).expect(rt, "memory")
+    operation_call(alloc, name, version, None, payload).expect(rt, "memory")
 }
 
 /// The call of these words.
@@ -438,6 +438,146 @@ fn a_long_response_is_refused(rt: HostRuntime) {
     let call = encrypt(&rt, rt.alloc(), PAYLOAD);
     is_answered(&rt, rt.alloc(), Some(7), &call, &LONG);
     is_answered(&rt, rt.alloc(), Some(8), &call, &SHORT);
+    drop(call);
+}
+
+/// A Unique Batch Item ID, and an Encrypt with it.
+const ID: &[u8] = &[1, 2, 0xA0];
+
+fn encrypt_with(rt: &impl Abort, alloc: Global, id: &[u8]) -> OperationCall {
+    let call = operation_call(alloc, "Encrypt", "1.2", Some(id), PAYLOAD).expect(rt, "memory");
+    call.expect(rt, "a call")
+}
+
+#[test]
+fn an_id_stands_between_the_operation_and_the_payload(rt: HostRuntime) {
+    let call = encrypt_with(&rt, rt.alloc(), ID);
+    let expected = "78{77{69{6A i1,6B i2},0D i1},0F{5C e1F,93 x0102A0,79{C2 x00FF}}}";
+    is_requested(&rt, rt.alloc(), &plain(), &call, expected);
+    is_requested(&rt, rt.alloc(), &plain(), &call, IDENTIFIED_HEX);
+    drop(call);
+}
+
+/// The same message in hex: header, batch item, operation, ID and payload.
+const IDENTIFIED_HEX: &str = concat!(
+    "!4200780100000080",
+    "42007701000000384200690100000020",
+    "42006A0200000004000000010000000042006B02000000040000000200000000",
+    "42000D02000000040000000100000000",
+    "42000F0100000038",
+    "42005C05000000040000001F00000000",
+    "42009308000000030102A00000000000",
+    "42007901000000104200C2080000000200FF000000000000",
+);
+
+/// Responses to that call (KMIP 1.0, 6.4): those with its ID are its own, as is a failure that names
+/// no operation and has no ID.
+const IDENTIFIED: &[AnswerRow] = &[
+    AnswerRow {
+        response: "RES2(5C e1F,93 x0102A0,7F e0,7C{C2 xDEADBEEF})",
+        ending: Ending::Answered,
+        line: "{\"answer\":{\"tag\":\"ResponsePayload\",\"value\":[{\"tag\":\"Data\",\"type\":\"ByteString\",\"value\":\"DEADBEEF\"}]}}\n",
+    },
+    AnswerRow {
+        response: "RES2(5C e1F,93 x0102A0,7F e1,7E e1,7D \"gone\")",
+        ending: Ending::Refused,
+        line: "{\"error\":\"ItemNotFound\",\"text\":\"Operation Encrypt failed: gone\",\"reason\":{\"name\":\"ItemNotFound\",\"number\":1},\"message\":\"gone\"}\n",
+    },
+    AnswerRow {
+        response: "RES2(93 x0102A0,7F e1,7E e1,7D \"gone\")",
+        ending: Ending::Refused,
+        line: "{\"error\":\"ItemNotFound\",\"text\":\"Operation Encrypt failed: gone\",\"reason\":{\"name\":\"ItemNotFound\",\"number\":1},\"message\":\"gone\"}\n",
+    },
+    AnswerRow {
+        response: "RES2(7F e1,7E e1,7D \"gone\")",
+        ending: Ending::Refused,
+        line: "{\"error\":\"ItemNotFound\",\"text\":\"Operation Encrypt failed: gone\",\"reason\":{\"name\":\"ItemNotFound\",\"number\":1},\"message\":\"gone\"}\n",
+    },
+    // another ID, one byte more, one byte less, none, two, and one that is a text
+    AnswerRow {
+        response: "RES2(5C e1F,93 x0102A1,7F e0,7C{C2 xDEADBEEF})",
+        ending: Ending::Lost,
+        line: "{\"error\":\"InternalError\",\"text\":\"Response does not have the request's Unique Batch Item ID\",\"response\":\"7B[7A[69[6Ai6Bi]92d0Di]0F[5Ce1F:93x7Fe0:7C[C2x]]]\"}\n",
+    },
+    AnswerRow {
+        response: "RES2(5C e1F,93 x0102A000,7F e0,7C{C2 xDEADBEEF})",
+        ending: Ending::Lost,
+        line: "{\"error\":\"InternalError\",\"text\":\"Response does not have the request's Unique Batch Item ID\",\"response\":\"7B[7A[69[6Ai6Bi]92d0Di]0F[5Ce1F:93x7Fe0:7C[C2x]]]\"}\n",
+    },
+    AnswerRow {
+        response: "RES2(5C e1F,93 x0102,7F e0,7C{C2 xDEADBEEF})",
+        ending: Ending::Lost,
+        line: "{\"error\":\"InternalError\",\"text\":\"Response does not have the request's Unique Batch Item ID\",\"response\":\"7B[7A[69[6Ai6Bi]92d0Di]0F[5Ce1F:93x7Fe0:7C[C2x]]]\"}\n",
+    },
+    AnswerRow {
+        response: "OK2(1F, C2 xDEADBEEF)",
+        ending: Ending::Lost,
+        line: "{\"error\":\"InternalError\",\"text\":\"Response does not have the request's Unique Batch Item ID\",\"response\":\"7B[7A[69[6Ai6Bi]92d0Di]0F[5Ce1F:7Fe0:7C[C2x]]]\"}\n",
+    },
+    AnswerRow {
+        response: "RES2(5C e1F,93 x0102A0,93 x0102A0,7F e0)",
+        ending: Ending::Lost,
+        line: "{\"error\":\"InternalError\",\"text\":\"Response does not have the request's Unique Batch Item ID\",\"response\":\"7B[7A[69[6Ai6Bi]92d0Di]0F[5Ce1F:93x93x7Fe0:]]\"}\n",
+    },
+    AnswerRow {
+        response: "RES2(5C e1F,93 \"0102A0\",7F e0)",
+        ending: Ending::Lost,
+        line: "{\"error\":\"InternalError\",\"text\":\"Response does not have the request's Unique Batch Item ID\",\"response\":\"7B[7A[69[6Ai6Bi]92d0Di]0F[5Ce1F:93t7Fe0:]]\"}\n",
+    },
+    // failures: of the operation with no ID, of none with another ID, and of another with this one
+    AnswerRow {
+        response: "RES2(5C e1F,7F e1,7E e1,7D \"gone\")",
+        ending: Ending::Lost,
+        line: "{\"error\":\"InternalError\",\"text\":\"Response does not have the request's Unique Batch Item ID\",\"response\":\"7B[7A[69[6Ai6Bi]92d0Di]0F[5Ce1F:7Fe1:7Ee1:7Dt]]\",\"reason\":{\"name\":\"ItemNotFound\",\"number\":1},\"message\":\"gone\"}\n",
+    },
+    AnswerRow {
+        response: "RES2(93 x00,7F e1,7E e1,7D \"gone\")",
+        ending: Ending::Lost,
+        line: "{\"error\":\"InternalError\",\"text\":\"Response does not have the request's Unique Batch Item ID\",\"response\":\"7B[7A[69[6Ai6Bi]92d0Di]0F[93x7Fe1:7Ee1:7Dt]]\",\"reason\":{\"name\":\"ItemNotFound\",\"number\":1},\"message\":\"gone\"}\n",
+    },
+    AnswerRow {
+        response: "RES2(5C e20,93 x0102A0,7F e1,7E e1,7D \"gone\")",
+        ending: Ending::Lost,
+        line: "{\"error\":\"InternalError\",\"text\":\"Response operation Decrypt does not match request operation Encrypt\",\"response\":\"7B[7A[69[6Ai6Bi]92d0Di]0F[5Ce20:93x7Fe1:7Ee1:7Dt]]\",\"reason\":{\"name\":\"ItemNotFound\",\"number\":1},\"message\":\"gone\"}\n",
+    },
+    // a success that names no operation, with no ID
+    AnswerRow {
+        response: "RES2(7F e0)",
+        ending: Ending::Lost,
+        line: "{\"error\":\"InternalError\",\"text\":\"Response does not have the request's Unique Batch Item ID\",\"response\":\"7B[7A[69[6Ai6Bi]92d0Di]0F[7Fe0:]]\"}\n",
+    },
+    AnswerRow {
+        response: "7B{}",
+        ending: Ending::Lost,
+        line: "{\"error\":\"InternalError\",\"text\":\"Expected one batch item in response but received 0\",\"response\":\"7B[]\"}\n",
+    },
+    AnswerRow {
+        response: "!42007B0100000008FFFFFFFFFFFFFFFF",
+        ending: Ending::Lost,
+        line: "{\"error\":\"DeserializeError\",\"text\":\"malformed TTLV\"}\n",
+    },
+];
+
+#[test]
+fn a_call_with_an_id_takes_no_answer_with_another(rt: HostRuntime) {
+    let call = encrypt_with(&rt, rt.alloc(), ID);
+    for row in IDENTIFIED {
+        is_answered(&rt, rt.alloc(), None, &call, row);
+    }
+    drop(call);
+}
+
+/// An ID in a response to a call that has none.
+const UNASKED: AnswerRow = AnswerRow {
+    response: "RES2(5C e1F,93 x0102A1,7F e0)",
+    ending: Ending::Answered,
+    line: "{\"answer\":{\"tag\":\"ResponsePayload\",\"value\":[]}}\n",
+};
+
+#[test]
+fn a_call_without_an_id_takes_an_answer_with_any(rt: HostRuntime) {
+    let call = encrypt(&rt, rt.alloc(), PAYLOAD);
+    is_answered(&rt, rt.alloc(), None, &call, &UNASKED);
     drop(call);
 }
 

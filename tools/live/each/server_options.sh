@@ -32,6 +32,6 @@ made=$(grep -o '"unique_identifier": *"[0-9]*"' "$said" | grep -o '[0-9]*')
 call_is 'it is given back' 0 get "$made"
 says 'as it was' 000102030405060708090A0B0C0D0E0F
 call_is 'another name' 0 attribute-modify "$made" 'name=50% = half' index=0
-call_is 'it is found by that' 0 locate 'name=50% = half'
+call_is 'it is found by that' 0 locate where 'name=50% = half'
 says 'and is the one' "\"$made\""
 call_is 'a key of another use' 0 create AES 256 "$name, new" usage=Encrypt

@@ -70,7 +70,7 @@ def is_kept(kmip: Client, key: str, tag: str, algorithm: str, material: bytes) -
     by_words = kmip.get(key)
     check(by_words.tree is not None and by_words.key_material == material,
           what + ' is got by the call of words')
-    names = [it.text_at('AttributeName') for it in kmip.attributes(key)]
+    names = [it.text_at('AttributeName') for it in kmip.attributes(key) if isinstance(it, Item)]
     check('Cryptographic Algorithm' in names, what + ' has its attributes by that call')
 
 

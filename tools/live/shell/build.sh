@@ -79,6 +79,14 @@ version_is() { # WHAT FOLDER REGEX: what kmip_version() of the library in this f
     says "$1" "$3"
 }
 version_is 'kmip_version() says that it is proved' 'the folder' '^[0-9.]+, proved$'
+PATH="$kit/bin:$PATH" "$python" -B - "$top" "$work/marked" >"$said" 2>&1 <<'PY'
+import sys
+sys.path.insert(0, sys.argv[1] + '/tools')
+from unproved_build import not_proved
+not_proved(sys.argv[1] + '/crates/kmip_call', sys.argv[2])
+PY
+grep '^const VERSION' marked/src/main.rt >>"$said" 2>&1
+says 'kmip_call --version of a build with no proof says so' '^const VERSION: &str = "kmip_call [0-9.]+, not proved\\n";$'
 BROKEN=kmip_types built_is 'a crate that is not proved ends it' 1 broken
 says 'what rt wrote is shown' 'kmip_types NOT PROVED'
 [[ ! -e broken/kmip_call ]]

@@ -4,8 +4,8 @@
     documents.py FOLDER    FOLDER is the repository; prints what is wrong, and ends with 1 where something is
 
 Links lead to files and headings that are there; README has at most 100 lines; the examples in the READMEs of crates stand
-word for word in the files that these name; the names in the documents of NAMED are names in the code; and in the documents
-of PLAIN no sentence has more than 40 words.
+word for word in the files that these name; the names in them and in the documents of NAMED are names in the code; and in
+them and in the documents of PLAIN no sentence has more than 40 words.
 """
 
 import re
@@ -113,9 +113,9 @@ def faults(top):
         for fault in faults_of_examples(path, top):
             yield f"{path.relative_to(top)}: {fault}"
     words = words_of_sources(top)
-    for name in NAMED:
-        for fault in faults_of_names(top / name, words):
-            yield f"{name}: {fault}"
+    for path in (*(top / name for name in NAMED), *crates):
+        for fault in faults_of_names(path, words):
+            yield f"{path.relative_to(top)}: {fault}"
     for path in (*(top / name for name in PLAIN), *crates):
         for fault in faults_of_sentences(path):
             yield f"{path.relative_to(top)}: {fault}"

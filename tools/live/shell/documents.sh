@@ -48,7 +48,8 @@ completes 'kmip_call cr' create create-rsa create-aes && completes 'kmip_call us
     completes 'kmip_call user=a destroy x' && completes 'kmip_call --v' --version &&
     completes 'kmip_call user=a operation Enc' Encrypt && completes 'kmip_call operation Encrypt v' version=
 verdict 'completion of kmip_call'
-completes 'kmip operation MAC' MAC MACVerify && completes 'kmip operation MAC ' version= && completes 'kmip operation MAC @ano' another && completes 'kmip message @ano' another &&
+completes 'kmip operation MAC' MAC MACVerify && completes 'kmip operation MAC ' version= item-id= &&
+    completes 'kmip operation MAC item-id=01 ' version= && completes 'kmip operation MAC version=1.0 ' item-id= && completes 'kmip operation MAC @ano' another && completes 'kmip message @ano' another &&
     completes 'kmip locate w' where && completes 'kmip de' destroy && completes 'kmip p' pem && completes 'kmip destroy d' && completes 'kmip_field sig' signature_data &&
     completes 'kmip_field signature_data si' sign && completes 'kmip_open localhost:5696 ano' another && completes 'kmip_open a'
 verdict 'completion of the functions'

@@ -16,19 +16,29 @@ says 'and the connection is good' '^\{"answer":'
 script_is 'no jq' 2 'open; mkdir "$work/no jq"; for it in bash flock timeout openssl; do ln -s "$(type -P "$it")" "$work/no jq"; done
     PATH=$work/no\ jq; kmip_field private_key create-rsa 2048 a b; (($? == 2)) || exit; kmip pem k'
 says 'is said before the call' '^\{"error":"GrammarError","text":"there is no jq .*nothing was sent"\}$'
-for field in privat_key 'private_key | keys'; do
+for field in privat_key 'private_key | keys' 'private_key | empty' 'private_key | halt' 'private_key | halt_error(0)'; do
     script_is "the field $field of a new pair" 1 'open; kmip_field "'"$field"'" create-rsa 2048 a b; status=$?; kmip_close; exit $status'
     says 'is missing' '^\{"error":"MissingValue"'
     says 'and the identifiers of the pair are shown' '^\{"answer":\{"private_key":"private","public_key":"public"\}\}$'
 done
+printf 'a secret' >secret
+script_is 'a field that is not there of what was registered' 1 'open; kmip_field no_such register-secret secret; status=$?; kmip_close; exit $status'
+says 'the identifier is shown' '^\{"answer":\{"unique_identifier":"1"\}\}$'
+script_is 'a field that is not there of what an operation has made' 1 'open
+    kmip_field no_such operation Register "{\"tag\":\"RequestPayload\",\"value\":[]}"; status=$?; kmip_close; exit $status'
+says 'the identifier is shown' '^\{"answer":\{.*"UniqueIdentifier","type":"TextString","value":"1"'
 fake long_integers
 script_is 'numbers that jq keeps' 0 'open; kmip_field "attributes[0, 1].value.LongInteger" attributes small; kmip_close'
 says 'are written' '^9007199254740991$'
 says 'with their sign' '^-9007199254740991$'
-for asked in attributes 'attributes[0].value.LongInteger' 'attributes[1].value.LongInteger'; do
+for asked in attributes 'attributes[0].value.LongInteger' 'attributes[1].value.LongInteger' \
+    'attributes[0].value.LongInteger | tostring' 'attributes[0].value.LongInteger - 1' \
+    'attributes[0].value.LongInteger == 9007199254740992' 'attributes | tojson'; do
     script_is "numbers that jq would round: $asked" 1 'open; kmip_field "'"$asked"'" attributes large; status=$?; kmip_close; exit $status'
     says 'are refused' '^\{"error":"MissingValue","text":"the field has a number that jq cannot keep'
 done
+script_is 'what does not depend on them' 0 'open; kmip_field "attributes[0].name" attributes large; kmip_close'
+says 'is written' '^x-0$'
 script_is 'kmip shows them' 0 'open; kmip attributes large; kmip_close'
 says 'as they are' '"LongInteger":9007199254740993.*"LongInteger":-9223372036854775808'
 fake objects
@@ -74,4 +84,6 @@ for given in $((port + 65536)) "+$((port + 65536))" 0 65536 -1; do
     port=$given script_is "the port $given" 2 open
     says 'is said to be none' "[ ]${given/+/[+]} is no port"
 done
+host=.example.test script_is 'a host that begins with a dot' 2 open
+says 'is said to be none' ' \.example\.test is no host$'
 port=0$port script_is 'a port with a zero before it' 0 'open; kmip query; kmip_close'

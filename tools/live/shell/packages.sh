@@ -83,7 +83,7 @@ within() { # COMMAND WORD..: in that root, as root of it
 if within "$(type -P bash)" -c :; then
     mkdir empty/kmip && cp -r root/. empty/kmip
     within "$(type -P bash)" -c '/kmip/bin/kmip_call --version'
-    says 'kmip_call of the tarball runs in a root that has the C library alone' '^kmip_call [0-9.]+$'
+    says 'kmip_call of the tarball runs in a root that has the C library alone' '^kmip_call [0-9.]+(, not proved)?$'
     within "$(type -P bash)" -c 'PATH=/kmip/bin; . kmip.sh; kmip_word "a b"'
     says 'and kmip.sh is found on the path there' '^a%20b$'
 else
@@ -107,7 +107,7 @@ if ((EUID == 0)); then
     PATH=$PATH:/usr/sbin:/sbin "${own_dpkg[@]}" -i "$deb" >"$said" 2>&1 && [[ -x system/usr/bin/kmip_call ]]
     verdict 'it is installed into an empty system'
     system/usr/bin/kmip_call --version >"$said" 2>&1
-    says 'and its program runs' '^kmip_call [0-9.]+$'
+    says 'and its program runs' '^kmip_call [0-9.]+(, not proved)?$'
     PATH=$PATH:/usr/sbin:/sbin "${own_dpkg[@]}" -r metsuwan >"$said" 2>&1 && [[ -z $(find system/usr -not -type d 2>/dev/null) ]]
     verdict 'and taken away whole'
 else

@@ -69,8 +69,8 @@ script 'seen() { pgrep -f "^[^ ]*kmip_call .*$1" >/dev/null; }
     grep -h "kmip_call .*\(register\|operation\|message\)" register operation file message
     cat register operation file message | grep -c "$secret" | sed "s/^/secrets /"'
 says 'the words of register are seen' 'kmip_call .*register symmetric @3 format=Raw algorithm=AES length=256$'
-says 'those of operation' 'kmip_call .*operation Register @3$'
-says 'those with a file' 'kmip_call .*operation Register @payload.json$'
+says 'those of operation' 'kmip_call .*operation Register item-id=[0-9a-f]* @3$'
+says 'those with a file' 'kmip_call .*operation Register item-id=[0-9a-f]* @payload.json$'
 says 'those of message' 'kmip_call .*message @3$'
 says 'no key is among the words of a process' '^secrets 0$'
 fake good

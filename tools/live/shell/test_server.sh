@@ -15,9 +15,12 @@ says 'what it says to enter makes a pair of keys' '^\{"answer":\{"private_key":"
 says 'and the private key signs' '^[0-9A-F]{512}$'
 "$it" stop --folder "$folder" >"$said" 2>&1 && [[ ! -e $folder ]]
 verdict 'test_server.sh stop'
-sleep 0.5
-# The server has processes of its own, which watch its policies.
-! pgrep -af "pykmip-server -f $folder/server.conf" >"$said"
+# The server has processes of its own, which watch its policies; they end when the system comes to it.
+for ((try = 0; try < 100 * slack; try++)); do
+    pgrep -af "pykmip-server -f $folder/server.conf" >"$said" || break
+    sleep 0.1
+done
+[[ ! -s $said ]]
 verdict 'it ends all processes of the server'
 "$it" stop --folder "$folder" >"$said" 2>&1
 says 'a second stop says that it does not run' 'does not run'

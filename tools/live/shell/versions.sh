@@ -9,7 +9,7 @@ has_version() { # FILE SED-SCRIPT
     verdict "$1 has the version $version"
 }
 "$built/kmip_call" --version >"$said"
-[[ $(<"$said") == "kmip_call $version" || $(<"$said") == "kmip_call $version.0" ]]
+[[ $(<"$said") =~ ^"kmip_call $version"(\.0)?(, not proved)?$ ]]
 verdict "kmip_call --version says $version"
 has_version clients/rust/Cargo.toml 's/^version *= *"(.*)"$/\1/p'
 has_version clients/python/metsuwan/__init__.py "s/^__version__ = '(.*)'\$/\1/p"

@@ -1,6 +1,7 @@
 //! A stream whose answers are written down.
 #![allow(dead_code)] // each test takes what it needs
 
+use crate::ttlv;
 use std::collections::VecDeque;
 use std::io::{self, ErrorKind, Read, Write};
 use std::sync::{Arc, Mutex};
@@ -22,8 +23,14 @@ impl Sent {
 /// What a stream does with a request.
 #[derive(Clone)]
 pub enum Does {
-    /// It answers.
+    /// It answers, with the Unique Batch Item ID of the request where that has one of eight bytes.
     Answer(Vec<u8>),
+    /// It answers a batch: an ID of four bytes is the place of a call, and is sent as that call's.
+    AnswerBatch(Vec<u8>),
+    /// It answers with these bytes.
+    AnswerAsItIs(Vec<u8>),
+    /// It answers with the bytes of the answer before.
+    AnswerAgain,
     /// It takes nothing of it.
     RefuseWrite,
     /// It fails so, once it has taken it.
@@ -34,6 +41,7 @@ pub enum Does {
 pub struct Script {
     does: VecDeque<Does>,
     request: Vec<u8>,
+    answer: Vec<u8>,
     left: VecDeque<u8>,
     fails: Option<ErrorKind>,
     sent: Sent,
@@ -44,10 +52,16 @@ impl Script {
         Script {
             does: does.to_vec().into(),
             request: Vec::new(),
+            answer: Vec::new(),
             left: VecDeque::new(),
             fails: None,
             sent: sent.clone(),
         }
+    }
+
+    fn answers(&mut self, answer: Vec<u8>) {
+        self.answer.clone_from(&answer);
+        self.left = answer.into();
     }
 }
 
@@ -61,12 +75,16 @@ impl Write for Script {
     }
 
     fn flush(&mut self) -> io::Result<()> {
-        self.sent.0.lock().unwrap().push(std::mem::take(&mut self.request));
+        let request = std::mem::take(&mut self.request);
         match self.does.pop_front() {
-            Some(Does::Answer(answer)) => self.left = answer.into(),
+            Some(Does::Answer(answer)) => self.answers(ttlv::identified(&answer, &request)),
+            Some(Does::AnswerBatch(answer)) => self.answers(ttlv::in_batch(&answer, &request)),
+            Some(Does::AnswerAsItIs(answer)) => self.answers(answer),
+            Some(Does::AnswerAgain) => self.left = self.answer.clone().into(),
             Some(Does::Fail(kind)) => self.fails = Some(kind),
-            _ => {}
+            Some(Does::RefuseWrite) | None => {}
         }
+        self.sent.0.lock().unwrap().push(request);
         Ok(())
     }
 }

@@ -60,7 +60,56 @@ pub fn failure(operation: u32, reason: u32, why: &str) -> Vec<u8> {
     message(&[], &[enumeration(0x42005C, operation), status, reason, text(0x42007D, why)])
 }
 
-/// A batch item of a response, with these identifiers in the batch.
+/// The Unique Batch Item IDs of eight bytes that a message has.
+pub fn item_ids(message: &[u8]) -> Vec<[u8; 8]> {
+    let items = message.windows(16).filter(|it| it.starts_with(&ID_HEAD));
+    items.map(|it| it[8..].try_into().unwrap()).collect()
+}
+
+/// The head of a Unique Batch Item ID of eight bytes (KMIP 1.2, 9.1.1).
+const ID_HEAD: [u8; 8] = [0x42, 0, 0x93, 8, 0, 0, 0, 8];
+
+/// The ID of a request, where that has one, as that of an operation.
+pub fn item_id(request: &[u8]) -> Option<[u8; 8]> {
+    item_ids(request).first().copied()
+}
+
+/// A response to a batch, of which an ID of four bytes says the place of a call: in their place it has
+/// the ID of that call in the request, or where there is none another one.
+pub fn in_batch(response: &[u8], request: &[u8]) -> Vec<u8> {
+    let (ids, mut made) = (item_ids(request), response.to_vec());
+    for at in 0..made.len().saturating_sub(15) {
+        let item = &mut made[at..at + 16];
+        // (whatever its type is, which stays)
+        if item.starts_with(&ID_HEAD[..3]) && item[4..8] == [0, 0, 0, 4] {
+            let place = u32::from_be_bytes(item[8..12].try_into().unwrap());
+            let own = ids.get(usize::try_from(place).unwrap()).copied();
+            let id = own.unwrap_or_else(|| ids[0].map(|byte| !byte));
+            item[4..].copy_from_slice(&[&ID_HEAD[4..], &id].concat());
+        }
+    }
+    made
+}
+
+/// A response of one batch item with this Unique Batch Item ID behind its operation (KMIP 1.2, 6.4
+/// and 7.2).
+pub fn with_item_id(response: &[u8], id: &[u8]) -> Vec<u8> {
+    let header_len = u32::from_be_bytes(response[12..16].try_into().unwrap());
+    let (header, item) = response[8..].split_at(8 + usize::try_from(header_len).unwrap());
+    let (operation, rest) = item[8..].split_at(16);
+    let named = structure(0x42000F, &[operation.to_vec(), bytes(0x420093, id), rest.to_vec()]);
+    structure(0x42007B, &[header.to_vec(), named])
+}
+
+/// What a good server makes of this response to a request: it has the ID of the request.
+pub fn identified(response: &[u8], request: &[u8]) -> Vec<u8> {
+    match item_id(request) {
+        Some(id) if !response.is_empty() => with_item_id(response, &id),
+        _ => response.to_vec(),
+    }
+}
+
+/// A batch item of a response, of the calls at these places in the batch (see `in_batch`).
 pub fn batch_item(names: &[u32], operation: u32, rest: &[Vec<u8>]) -> Vec<u8> {
     let mut items = vec![enumeration(0x42005C, operation)];
     items.extend(names.iter().map(|name| bytes(0x420093, &name.to_be_bytes())));

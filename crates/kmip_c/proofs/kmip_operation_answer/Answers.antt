@@ -21,7 +21,7 @@ returns-in-Ok-clause-answer c = λ some.
     rw (to_z-of_z w32 c.status_of.result status)
     (rw (to_z-of_z w64 c.copy_out.result told)
     (operation_answered (request_of c.in-Ok-Some.call)
-    c.args.name.now c.args.version.now c.args.payload.now c.args.response.now c.args.into.now c.copy_out.new.room
+    c.args.name.now c.args.version.now c.args.id.now c.args.payload.now c.args.response.now c.args.into.now c.copy_out.new.room
     c.in-Ok.answer.line.items c.in-Ok.answer.ending c.status_of.result c.copy_out.result asks ending line c.in-Ok.ensures.json c.status_of.ensures
     (c.copy_out.ensures.len ∙ ap (λ (x : List ℕ). pos (length x)) c.deref.ensures.value)
     (c.copy_out.ensures.room ∙ ap (λ (x : List ℕ). room_with x c.args.into.now)

@@ -13,4 +13,4 @@ returns-in-Ok-Some-clause-refusal c = λ some.
 pub returns-in-Ok-None-clause-refusal : goal.returns-in-Ok-None-clause-refusal
 returns-in-Ok-None-clause-refusal c = λ some.
     let asks = rw c.in-Ok-None.field-0-is at c.in-Ok-None.ensures in
-    IsOperationRefused.asked asks.0 asks.1 (refl, refl)
+    IsOperationRefused.asked asks (refl, refl)

@@ -16,7 +16,7 @@ returns-in-Ok-Some-operation_request-clause-request c = λ some.
     rw (to_z-of_z w64 c.copy_out.result told)
     (operation_requested (settings_of c.args.has_credential c.args.user.now c.args.password.now)
     c.in-Ok-Some.settings (request_of c.in-Ok-Some-operation_of.call)
-    c.args.name.now c.args.version.now c.args.payload.now c.args.into.now c.copy_out.new.room c.copy_out.result (Some c.in-Ok-Some-operation_request.request) (sym settings) asks made (
+    c.args.name.now c.args.version.now c.args.id.now c.args.payload.now c.args.into.now c.copy_out.new.room c.copy_out.result (Some c.in-Ok-Some-operation_request.request) (sym settings) asks made (
       c.copy_out.ensures.len ∙ ap (λ (x : List ℕ). pos (length x)) c.as_slice.ensures,
       c.copy_out.ensures.room ∙ ap (λ (x : List ℕ). room_with x c.args.into.now)
           c.as_slice.ensures,
@@ -29,4 +29,4 @@ returns-in-Ok-None-operation_request-clause-request c = λ some.
     let made = rw c.in-Ok-None-operation_request.field-0-is at c.in-Ok-None-operation_request.ensures in
     operation_requested (settings_of c.args.has_credential c.args.user.now c.args.password.now)
     c.in-Ok-Some.settings (request_of c.in-Ok-Some-operation_of.call)
-    c.args.name.now c.args.version.now c.args.payload.now c.args.into.now c.args.into.now no_form None (sym settings) asks made (refl, refl)
+    c.args.name.now c.args.version.now c.args.id.now c.args.payload.now c.args.into.now c.args.into.now no_form None (sym settings) asks made (refl, refl)

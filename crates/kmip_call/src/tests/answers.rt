@@ -138,6 +138,16 @@ const ENCRYPTED: Row = Row {
     ..ANSWERED
 };
 
+/// The same with a Unique Batch Item ID (KMIP 1.0, 6.4), which the response has too.
+const IDENTIFIED: Row = Row {
+    shows: "a Unique Batch Item ID",
+    words: &["operation", "Encrypt", "item-id=0102a0B1", PAYLOAD],
+    response: "RES2(5C e1F,93 x0102A0B1,7F e0,7C{C2 xDEADBEEF})",
+    sent: "78{77{69{6A i1,6B i2},0D i1},0F{5C e1F,93 x0102A0B1,79{C2 x00FF}}}",
+    line: "{\"answer\":{\"tag\":\"ResponsePayload\",\"value\":[{\"tag\":\"Data\",\"type\":\"ByteString\",\"value\":\"DEADBEEF\"}]}}\n",
+    ..ANSWERED
+};
+
 /// An Encrypt of a payload of 62 levels, whose message has 64.
 pub const DEEPEST: Row = Row {
     shows: "a message of 64 levels",
@@ -160,11 +170,124 @@ const NO_OPERATION: Row = Row {
     shows: "an operation without a payload",
     words: &["operation", "Encrypt"],
     sent: "",
-    line: "{\"error\":\"GrammarError\",\"text\":\"the words are not those of operation NAME [version=] PAYLOAD\"}\n",
+    line: "{\"error\":\"GrammarError\",\"text\":\"the words are not those of operation NAME [version=] [item-id=] PAYLOAD\"}\n",
     status: 2,
     left: 168,
     ..ENCRYPTED
 };
+
+/// What is said of a Unique Batch Item ID that is none.
+const WRONG_ID: &str =
+    "{\"error\":\"GrammarError\",\"text\":\"item-id= takes an even number of hex digits, at least two\"}\n";
+
+/// Calls of any operation with a Unique Batch Item ID.
+pub const IDENTIFIED_OPERATIONS: &[Row] = &[
+    IDENTIFIED,
+    Row {
+        shows: "a version before a Unique Batch Item ID",
+        words: &[
+            "operation",
+            "Encrypt",
+            "version=1.0",
+            "item-id=0102a0B1",
+            PAYLOAD,
+        ],
+        sent: "78{77{69{6A i1,6B i0},0D i1},0F{5C e1F,93 x0102A0B1,79{C2 x00FF}}}",
+        ..IDENTIFIED
+    },
+    Row {
+        shows: "a version after it",
+        words: &[
+            "operation",
+            "Encrypt",
+            "item-id=0102a0B1",
+            "version=1.0",
+            PAYLOAD,
+        ],
+        sent: "78{77{69{6A i1,6B i0},0D i1},0F{5C e1F,93 x0102A0B1,79{C2 x00FF}}}",
+        ..IDENTIFIED
+    },
+    Row {
+        shows: "an answer with another Unique Batch Item ID",
+        response: "RES2(5C e1F,93 x0102A0B2,7F e0,7C{C2 xDEADBEEF})",
+        line: "{\"error\":\"InternalError\",\"text\":\"Response does not have the request's Unique Batch Item ID\",\"response\":\"7B[7A[69[6Ai6Bi]92d0Di]0F[5Ce1F:93x7Fe0:7C[C2x]]]\"}\n",
+        status: 3,
+        ..IDENTIFIED
+    },
+    Row {
+        shows: "an answer with none",
+        response: "OK2(1F, C2 xDEADBEEF)",
+        line: "{\"error\":\"InternalError\",\"text\":\"Response does not have the request's Unique Batch Item ID\",\"response\":\"7B[7A[69[6Ai6Bi]92d0Di]0F[5Ce1F:7Fe0:7C[C2x]]]\"}\n",
+        status: 3,
+        ..IDENTIFIED
+    },
+    Row {
+        shows: "a failure with the ID",
+        response: "RES2(5C e1F,93 x0102A0B1,7F e1,7E e1,7D \"gone\")",
+        line: "{\"error\":\"ItemNotFound\",\"text\":\"Operation Encrypt failed: gone\",\"reason\":{\"name\":\"ItemNotFound\",\"number\":1},\"message\":\"gone\"}\n",
+        status: 1,
+        ..IDENTIFIED
+    },
+    Row {
+        shows: "a failure with no operation and no ID",
+        response: "RES2(7F e1,7E e1,7D \"gone\")",
+        line: "{\"error\":\"ItemNotFound\",\"text\":\"Operation Encrypt failed: gone\",\"reason\":{\"name\":\"ItemNotFound\",\"number\":1},\"message\":\"gone\"}\n",
+        status: 1,
+        ..IDENTIFIED
+    },
+    Row {
+        shows: "an answer with an ID to an operation without one",
+        response: "RES2(5C e1F,93 x0102A0B2,7F e0)",
+        line: "{\"answer\":{\"tag\":\"ResponsePayload\",\"value\":[]}}\n",
+        ..ENCRYPTED
+    },
+    Row {
+        shows: "a Unique Batch Item ID of no bytes",
+        words: &["operation", "Encrypt", "item-id=", PAYLOAD],
+        line: WRONG_ID,
+        ..NO_OPERATION
+    },
+    Row {
+        shows: "one of no bytes, as other words write them",
+        words: &["operation", "Encrypt", "item-id=-", PAYLOAD],
+        line: WRONG_ID,
+        ..NO_OPERATION
+    },
+    Row {
+        shows: "one of half a byte",
+        words: &["operation", "Encrypt", "item-id=010", PAYLOAD],
+        line: WRONG_ID,
+        ..NO_OPERATION
+    },
+    Row {
+        shows: "one that is no hex",
+        words: &["operation", "Encrypt", "item-id=0g", PAYLOAD],
+        line: WRONG_ID,
+        ..NO_OPERATION
+    },
+    Row {
+        shows: "two of them",
+        words: &["operation", "Encrypt", "item-id=01", "item-id=01", PAYLOAD],
+        ..NO_OPERATION
+    },
+    Row {
+        shows: "one between two versions",
+        words: &[
+            "operation",
+            "Encrypt",
+            "version=1.2",
+            "item-id=01",
+            "version=1.2",
+            PAYLOAD,
+        ],
+        ..NO_OPERATION
+    },
+    Row {
+        shows: "one without a payload",
+        words: &["operation", "Encrypt", "item-id=01"],
+        ..NO_OPERATION
+    },
+];
 
 /// Calls of any operation.
 pub const OPERATIONS: &[Row] = &[

@@ -1,9 +1,9 @@
-use Rattle.kmip_call.proofs.Errands.{operation_asks}
+use Rattle.std.proofs.Common.{sym, ◌∙◌}
+use Rattle.kmip_call.proofs.Errands.{none_without_id}
 use Rattle.kmip_call.proofs.requested.operation_request_of.Goals as goal
 
-pub returns : goal.returns
-returns c =
-    operation_asks c.args.order.now c.args.name.now c.args.version.now c.args.payload.now
-    c.in-Some.call _ c.requires.file c.requires.words
-    (rw c.in-Some.is at c.in_ok-call.ensures)
-    c.in_ok-request.ensures
+pub returns-in-None : goal.returns-in-None
+returns-in-None c =
+    none_without_id c.args.order.now c.args.name.now c.args.version.now
+    _ c.args.payload.now c.requires.words
+    (sym c.in_ok-id.ensures ∙ c.in-None.is)

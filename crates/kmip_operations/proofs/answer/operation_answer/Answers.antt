@@ -1,5 +1,7 @@
-use Rattle.std.proofs.Common.{Some, take}
-use Rattle.kmip_client.specs.Untyped.{untyped_answer}
+use Rattle.std.proofs.Common.{Some, List, ℕ, Result, take}
+use Rattle.kmip_wire.specs.Tree.{Tree}
+use Rattle.kmip_client.specs.declared.error.Error.{Error}
+use Rattle.kmip_client.specs.Untyped.{identified_answer}
 use Rattle.kmip_words.proofs.Replies.{part_within}
 use Rattle.kmip_operations.specs.Answers.{sent_outcome}
 use Rattle.kmip_operations.proofs.Replies.{reply_is, due_line, due_ending, told_json}
@@ -13,24 +15,28 @@ told-requires c =
 pub returns-clause-line : goal.returns-clause-line
 returns-clause-line c =
     let reading = c.read_operation_response-reading.result in
-    due_line c.told.result (Some c.args.call.now.operation) reading.answer (take reading.taken c.args.response.now)
-    (sent_outcome (untyped_answer c.args.call.now.operation) c.args.settings.now c.args.response.now) c.args.response.now
-    (reply_is (untyped_answer c.args.call.now.operation) c.args.settings.now c.args.response.now reading.answer reading.taken
-    (rw c.limit.ensures at c.read_operation_response-reading.ensures.answer)
+    let call = c.args.call.now in
+    let reads : List ℕ → Result Tree Error = identified_answer call.operation call.id in
+    due_line c.told.result (Some call.operation) call.id reading.answer (take reading.taken c.args.response.now)
+    (sent_outcome reads c.args.settings.now c.args.response.now) c.args.response.now
+    (reply_is reads c.args.settings.now c.args.response.now reading.answer reading.taken
+    (rw (c.limit.ensures, c.id_of-id.ensures) at c.read_operation_response-reading.ensures.answer)
     (rw c.limit.ensures at c.read_operation_response-reading.ensures.taken))
-    c.told.ensures
+    (rw c.id_of-id.ensures at c.told.ensures)
 
 pub returns-clause-ending : goal.returns-clause-ending
 returns-clause-ending c =
     let reading = c.read_operation_response-reading.result in
-    due_ending c.told.result (Some c.args.call.now.operation) reading.answer (take reading.taken c.args.response.now)
-    (sent_outcome (untyped_answer c.args.call.now.operation) c.args.settings.now c.args.response.now) c.args.response.now
-    (reply_is (untyped_answer c.args.call.now.operation) c.args.settings.now c.args.response.now reading.answer reading.taken
-    (rw c.limit.ensures at c.read_operation_response-reading.ensures.answer)
+    let call = c.args.call.now in
+    let reads : List ℕ → Result Tree Error = identified_answer call.operation call.id in
+    due_ending c.told.result (Some call.operation) call.id reading.answer (take reading.taken c.args.response.now)
+    (sent_outcome reads c.args.settings.now c.args.response.now) c.args.response.now
+    (reply_is reads c.args.settings.now c.args.response.now reading.answer reading.taken
+    (rw (c.limit.ensures, c.id_of-id.ensures) at c.read_operation_response-reading.ensures.answer)
     (rw c.limit.ensures at c.read_operation_response-reading.ensures.taken))
-    c.told.ensures
+    (rw c.id_of-id.ensures at c.told.ensures)
 
 pub returns-clause-json : goal.returns-clause-json
 returns-clause-json c =
     let reading = c.read_operation_response-reading.result in
-    told_json c.told.result (Some c.args.call.now.operation) reading.answer (take reading.taken c.args.response.now) c.told.ensures
+    told_json c.told.result (Some c.args.call.now.operation) _ reading.answer (take reading.taken c.args.response.now) c.told.ensures

@@ -1,10 +1,7 @@
-use Rattle.kmip_operations.proofs.Told.{error_told}
+use Rattle.kmip_operations.proofs.Told.{told_with_id}
 use Rattle.kmip_operations.proofs.answer.push_error.Goals as goal
 
 pub returns : goal.returns
 returns c =
-    let shown = c.show_failure-told.ensures in
-    error_told c.show_failure-told.result c.args.operation c.args.error.now c.args.first.now c.args.line.now
-    c.show_failure-told.new.line c.as_str.ensures.utf8 c.as_str-2.ensures.utf8
-    (λ error. c.lines_are_json.ensures.error error c.args.first.now)
-    shown.shown shown.ending shown.memory
+    told_with_id c.ending_for.result c.args.operation _ c.args.error.now c.in_ok-ended.ended c.args.first.now
+    c.args.line.now _ c.in_ok-ended.ensures c.ending_for.ensures

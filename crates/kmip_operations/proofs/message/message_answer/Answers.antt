@@ -13,7 +13,7 @@ told-requires c =
 pub returns-clause-line : goal.returns-clause-line
 returns-clause-line c =
     let reading = c.read_whole_message-reading.result in
-    due_line c.told.result None reading.answer (take reading.taken c.args.response.now)
+    due_line c.told.result None None reading.answer (take reading.taken c.args.response.now)
     (sent_outcome whole_answer c.args.settings.now c.args.response.now) c.args.response.now
     (reply_is whole_answer c.args.settings.now c.args.response.now reading.answer reading.taken
     (rw c.limit.ensures at c.read_whole_message-reading.ensures.answer)
@@ -23,7 +23,7 @@ returns-clause-line c =
 pub returns-clause-ending : goal.returns-clause-ending
 returns-clause-ending c =
     let reading = c.read_whole_message-reading.result in
-    due_ending c.told.result None reading.answer (take reading.taken c.args.response.now)
+    due_ending c.told.result None None reading.answer (take reading.taken c.args.response.now)
     (sent_outcome whole_answer c.args.settings.now c.args.response.now) c.args.response.now
     (reply_is whole_answer c.args.settings.now c.args.response.now reading.answer reading.taken
     (rw c.limit.ensures at c.read_whole_message-reading.ensures.answer)
@@ -33,4 +33,4 @@ returns-clause-ending c =
 pub returns-clause-json : goal.returns-clause-json
 returns-clause-json c =
     let reading = c.read_whole_message-reading.result in
-    told_json c.told.result None reading.answer (take reading.taken c.args.response.now) c.told.ensures
+    told_json c.told.result None None reading.answer (take reading.taken c.args.response.now) c.told.ensures

@@ -1,0 +1,89 @@
+/* Records of exchanges: lines of a script of kmip_run. */
+#include "metsuwan_internal.h"
+
+#include <stdio.h>
+#include <string.h>
+
+#define HEAD ((size_t)8)
+#define AUTHENTICATION 0x42000C /* KMIP 1.0, 6.6 */
+#define ITEM_ID 0x420093        /* 6.4 */
+
+static uint32_t number_at(const uint8_t *at) {
+    return (uint32_t)at[0] << 24 | (uint32_t)at[1] << 16 | (uint32_t)at[2] << 8 | at[3];
+}
+
+static void put_number(uint8_t *at, size_t number) {
+    for (int i = 0; i < 4; i++)
+        at[i] = (uint8_t)(number >> (24 - 8 * i));
+}
+
+/* Takes an item out of the structure that begins there in a request, which was made here, in its own
+   place; the length that the request has then. */
+static size_t without(uint32_t tag, size_t structure, uint8_t *request, size_t length) {
+    size_t begin = structure + HEAD, at = begin, whole = 0;
+    size_t end = begin + number_at(request + structure + 4);
+    for (; at < end; at += whole) {
+        whole = HEAD + ((size_t)number_at(request + at + 4) + 7) / 8 * 8;
+        if (number_at(request + at) >> 8 == tag) break;
+    }
+    if (at >= end) return length;
+    memmove(request + at, request + at + whole, length - at - whole);
+    put_number(request + structure + 4, end - begin - whole);
+    put_number(request + 4, length - HEAD - whole);
+    return length - whole;
+}
+
+/* Takes the credential out of the request, and of an operation the Unique Batch Item ID, which the
+   call of a script has not. */
+static size_t request_of_record(const kmip_client *client) {
+    uint8_t *request = client->request.bytes;
+    size_t length = without(AUTHENTICATION, HEAD, request, client->request_len);
+    size_t batch_item = 2 * HEAD + number_at(request + HEAD + 4);
+    return client->item_id_len > 0 ? without(ITEM_ID, batch_item, request, length) : length;
+}
+
+static uint8_t *put_hex(uint8_t *into, const uint8_t *bytes, size_t count) {
+    static const char digits[] = "0123456789ABCDEF";
+    for (size_t i = 0; i < count; i++) {
+        *into++ = (uint8_t)digits[bytes[i] >> 4];
+        *into++ = (uint8_t)digits[bytes[i] & 15];
+    }
+    return into;
+}
+
+/* Whether the call of this line, `raw` and the request in hex, is one, and its request is this. */
+static bool is_raw(const uint8_t *line, size_t line_len, const uint8_t *request, size_t length,
+                   kmip_room *made) {
+    int64_t found = kmip_request(line, line_len, false, line, 0, line, 0, made->bytes, made->room);
+    return found >= 0 && (uint64_t)found == length && memcmp(made->bytes, request, length) == 0;
+}
+
+bool kmip_tell_record(kmip_client *client) {
+    static const char message[] = "message ", raw[] = "raw ";
+    kmip_room line = {NULL, 0}, made = {NULL, 0};
+    if (!client->record) return true;
+    size_t length = request_of_record(client);
+    const uint8_t *request = client->request.bytes;
+    size_t most = (SIZE_MAX - sizeof message - 2) / 4;
+    bool fits = length <= most && client->response_len <= most &&
+                kmip_room_has(&line, sizeof message + 2 * (length + client->response_len) + 2) &&
+                kmip_room_has(&made, length);
+    if (fits) {
+        /* Where it is `raw`, the line begins at its last four bytes. */
+        size_t front = sizeof message - 1, less = sizeof message - sizeof raw;
+        memcpy(line.bytes + less, raw, sizeof raw - 1);
+        uint8_t *at = put_hex(line.bytes + front, request, length);
+        size_t call_len = (size_t)(at - line.bytes) - less;
+        if (!is_raw(line.bytes + less, call_len, request, length, &made)) less = 0;
+        if (less == 0) memcpy(line.bytes, message, front);
+        *at++ = ' ';
+        at = put_hex(at, client->response.bytes, client->response_len);
+        *at++ = '\n';
+        *at = 0;
+        client->record(client->record_data, (const char *)line.bytes + less,
+                       (size_t)(at - line.bytes) - less);
+    }
+    kmip_room_free(&line);
+    kmip_room_free(&made);
+    return fits;
+}

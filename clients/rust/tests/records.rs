@@ -1,0 +1,88 @@
+//! What a record is told.
+mod script;
+mod ttlv;
+
+use metsuwan::{library, Client, ClientBuilder, Item, Word};
+use script::{Does, Script, Sent};
+use std::io::ErrorKind;
+use std::sync::{Arc, Mutex};
+use ttlv::{failure, identifier, response};
+
+/// The request to activate `k` (KMIP 1.0, 4.18), and with 15 that to archive it, as the standard has
+/// it.
+fn asks_for(operation: &str) -> String {
+    format!(
+        "4200780100000070420077010000003842006901000000204200\
+         6A0200000004000000010000000042006B02000000040000000000000000\
+         42000D0200000004000000010000000042000F0100000028\
+         42005C0500000004000000{operation}00000000\
+         420079010000001042009407000000016B00000000000000"
+    )
+}
+
+type Told = Arc<Mutex<Vec<String>>>;
+
+fn client(does: &[Does]) -> (Client<Script>, Told) {
+    let told = Told::default();
+    let kept = Arc::clone(&told);
+    let builder = ClientBuilder::new(Script::new(does, &Sent::default()))
+        .with_credentials("alice", "geheim")
+        .with_record(move |line| kept.lock().unwrap().push(line.to_string()));
+    (builder.build(), told)
+}
+
+fn done(operation: u32) -> Does {
+    Does::Answer(response(operation, &[identifier("k")]))
+}
+
+/// The words of the last line.
+fn words(told: &Told) -> [String; 3] {
+    let told = told.lock().unwrap();
+    let line = told.last().unwrap().strip_suffix('\n').unwrap();
+    line.split(' ').map(str::to_string).collect::<Vec<_>>().try_into().unwrap()
+}
+
+#[test]
+fn a_call_is_answered_again() {
+    let (client, told) = client(&[done(0x12), done(0x12)]);
+    client.call("activate", &[Word::Text("k")]).unwrap();
+    client.do_operation("Activate", "1.0", vec![Item::new("UniqueIdentifier", "k")]).unwrap();
+    // (That of the operation has no ID, but in its response.)
+    let [word, request, answer] = words(&told);
+    assert_eq!((word.as_str(), &request), ("raw", &asks_for("12")));
+    let digits = answer.as_bytes().chunks(2).map(|it| std::str::from_utf8(it).unwrap());
+    let answer: Vec<u8> = digits.map(|it| u8::from_str_radix(it, 16).unwrap()).collect();
+    assert_eq!(answer.len(), response(0x12, &[identifier("k")]).len() + 16);
+    let (status, _) = library::answer(&format!("raw {request}"), &answer);
+    assert_eq!(status, library::Status::Answered);
+    let told = told.lock().unwrap();
+    assert!(told.len() == 2 && told[0].starts_with(&format!("raw {request} ")));
+}
+
+#[test]
+fn an_operation_that_is_no_call_is_a_message() {
+    let (client, told) = client(&[done(0x15)]);
+    client.do_operation("Archive", "1.0", vec![Item::new("UniqueIdentifier", "k")]).unwrap();
+    let [word, request, _] = words(&told);
+    assert_eq!((word.as_str(), request), ("message", asks_for("15")));
+}
+
+#[test]
+fn a_batch_is_a_message_without_its_credential() {
+    let (client, told) = client(&[Does::Answer(failure(0x12, 5, "no batches"))]);
+    client.batch().call("activate", &[Word::Text("k")]).unwrap().send().unwrap();
+    let [word, request, answer] = words(&told);
+    let digits = request.split_once("4200930800000008").unwrap().1;
+    assert!(word == "message" && answer.contains(&format!("4200930800000008{}", &digits[..16])));
+    assert!(!request.contains("67656865696D"));
+}
+
+#[test]
+fn what_is_refused_is_recorded_and_what_is_lost_is_not() {
+    let refusal = Does::Answer(failure(0x12, 12, "no"));
+    for (does, count) in [(refusal, 1), (Does::Fail(ErrorKind::ConnectionReset), 0)] {
+        let (client, told) = client(&[does]);
+        client.call("activate", &[Word::Text("k")]).unwrap_err();
+        assert_eq!(told.lock().unwrap().len(), count);
+    }
+}
