@@ -118,11 +118,11 @@ impl<T> Client<T> {
 
     /// What holds of each client: the texts of its credential are UTF-8. It does nothing.
     #[tactic(auto, using(crate::proofs::Texts::texts_known))]
-    pub fn known(&self)
+    pub fn fits(&self)
         ensures { FitsCredential self.now.credential }
     {
         match &self.settings.authentication {
-            Some(authentication) => authentication.known(),
+            Some(authentication) => authentication.fits(),
             None => {}
         }
     }

@@ -76,18 +76,18 @@ impl Item for KeyMaterial {
 
     ghost val = { key_material_val };
 
-    fn known(&self) {
+    fn fits(&self) {
         match self {
-            KeyMaterial::Bytes(bytes) => bytes.known(),
-            KeyMaterial::TransparentSymmetricKey(key) => key.known(),
-            KeyMaterial::TransparentDSAPrivateKey(key) => key.known(),
-            KeyMaterial::TransparentDSAPublicKey(key) => key.known(),
-            KeyMaterial::TransparentRSAPrivateKey(key) => key.known(),
-            KeyMaterial::TransparentRSAPublicKey(key) => key.known(),
-            KeyMaterial::TransparentDHPrivateKey(key) => key.known(),
-            KeyMaterial::TransparentDHPublicKey(key) => key.known(),
-            KeyMaterial::Structure(bytes) => bytes.known(),
-            KeyMaterial::Wrapped(bytes) => bytes.known(),
+            KeyMaterial::Bytes(bytes) => bytes.fits(),
+            KeyMaterial::TransparentSymmetricKey(key) => key.fits(),
+            KeyMaterial::TransparentDSAPrivateKey(key) => key.fits(),
+            KeyMaterial::TransparentDSAPublicKey(key) => key.fits(),
+            KeyMaterial::TransparentRSAPrivateKey(key) => key.fits(),
+            KeyMaterial::TransparentRSAPublicKey(key) => key.fits(),
+            KeyMaterial::TransparentDHPrivateKey(key) => key.fits(),
+            KeyMaterial::TransparentDHPublicKey(key) => key.fits(),
+            KeyMaterial::Structure(bytes) => bytes.fits(),
+            KeyMaterial::Wrapped(bytes) => bytes.fits(),
         }
     }
 

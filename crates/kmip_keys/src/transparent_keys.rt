@@ -61,7 +61,7 @@ impl Item for TransparentSymmetricKey {
 
     ghost val = { transparent_symmetric_key_val };
 
-    fn known(&self) {
+    fn fits(&self) {
         fits_record::<TransparentSymmetricKeyRows>(fields![&self.key]);
     }
 
@@ -125,7 +125,7 @@ impl Item for TransparentDSAPrivateKey {
 
     ghost val = { transparent_dsa_private_key_val };
 
-    fn known(&self) {
+    fn fits(&self) {
         fits_record::<TransparentDSAPrivateKeyRows>(fields![&self.p, &self.q, &self.g, &self.x]);
     }
 
@@ -197,7 +197,7 @@ impl Item for TransparentDSAPublicKey {
 
     ghost val = { transparent_dsa_public_key_val };
 
-    fn known(&self) {
+    fn fits(&self) {
         fits_record::<TransparentDSAPublicKeyRows>(fields![&self.p, &self.q, &self.g, &self.y]);
     }
 
@@ -296,7 +296,7 @@ impl Item for TransparentRSAPrivateKey {
 
     ghost val = { transparent_rsa_private_key_val };
 
-    fn known(&self) {
+    fn fits(&self) {
         fits_record::<TransparentRSAPrivateKeyRows>(fields![
             &self.modulus,
             &self.private_exponent,
@@ -422,7 +422,7 @@ impl Item for TransparentRSAPublicKey {
 
     ghost val = { transparent_rsa_public_key_val };
 
-    fn known(&self) {
+    fn fits(&self) {
         fits_record::<TransparentRSAPublicKeyRows>(fields![&self.modulus, &self.public_exponent]);
     }
 
@@ -502,7 +502,7 @@ impl Item for TransparentDHPrivateKey {
 
     ghost val = { transparent_dh_private_key_val };
 
-    fn known(&self) {
+    fn fits(&self) {
         fits_record::<TransparentDHPrivateKeyRows>(fields![
             &self.p, &self.q, &self.g, &self.j, &self.x
         ]);
@@ -583,7 +583,7 @@ impl Item for TransparentDHPublicKey {
 
     ghost val = { transparent_dh_public_key_val };
 
-    fn known(&self) {
+    fn fits(&self) {
         fits_record::<TransparentDHPublicKeyRows>(fields![
             &self.p, &self.q, &self.g, &self.j, &self.y
         ]);

@@ -36,8 +36,8 @@ impl Item for AttributeName {
 
     ghost val = { attribute_name_val };
 
-    fn known(&self) {
-        self.0.known();
+    fn fits(&self) {
+        self.0.fits();
     }
 
     ghost faithful = { attribute_name_same };

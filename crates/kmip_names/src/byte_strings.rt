@@ -27,8 +27,8 @@ impl Item for Data {
 
     ghost val = { data_val };
 
-    fn known(&self) {
-        self.0.known();
+    fn fits(&self) {
+        self.0.fits();
     }
 
     ghost faithful = { data_same };
@@ -80,8 +80,8 @@ impl Item for UniqueBatchItemID {
 
     ghost val = { unique_batch_item_id_val };
 
-    fn known(&self) {
-        self.0.known();
+    fn fits(&self) {
+        self.0.fits();
     }
 
     ghost faithful = { unique_batch_item_id_same };

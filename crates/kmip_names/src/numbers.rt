@@ -33,8 +33,8 @@ impl Item for AttributeIndex {
 
     ghost val = { attribute_index_val };
 
-    fn known(&self) {
-        self.0.known();
+    fn fits(&self) {
+        self.0.fits();
     }
 
     ghost faithful = { attribute_index_same };
@@ -71,8 +71,8 @@ impl Item for DataLength {
 
     ghost val = { data_length_val };
 
-    fn known(&self) {
-        self.0.known();
+    fn fits(&self) {
+        self.0.fits();
     }
 
     ghost faithful = { data_length_same };
@@ -109,8 +109,8 @@ impl Item for CryptographicLength {
 
     ghost val = { cryptographic_length_val };
 
-    fn known(&self) {
-        self.0.known();
+    fn fits(&self) {
+        self.0.fits();
     }
 
     ghost faithful = { cryptographic_length_same };
@@ -149,8 +149,8 @@ impl Item for CompromiseOccurrenceDate {
 
     ghost val = { compromise_occurrence_date_val };
 
-    fn known(&self) {
-        self.0.known();
+    fn fits(&self) {
+        self.0.fits();
     }
 
     ghost faithful = { compromise_occurrence_date_same };

@@ -24,8 +24,8 @@ impl Item for RandomIV {
 
     ghost val = { random_iv_val };
 
-    fn known(&self) {
-        self.0.known();
+    fn fits(&self) {
+        self.0.fits();
     }
 
     ghost faithful = { random_iv_same };
@@ -62,8 +62,8 @@ impl Item for IVLength {
 
     ghost val = { iv_length_val };
 
-    fn known(&self) {
-        self.0.known();
+    fn fits(&self) {
+        self.0.fits();
     }
 
     ghost faithful = { iv_length_same };
@@ -100,8 +100,8 @@ impl Item for TagLength {
 
     ghost val = { tag_length_val };
 
-    fn known(&self) {
-        self.0.known();
+    fn fits(&self) {
+        self.0.fits();
     }
 
     ghost faithful = { tag_length_same };
@@ -138,8 +138,8 @@ impl Item for FixedFieldLength {
 
     ghost val = { fixed_field_length_val };
 
-    fn known(&self) {
-        self.0.known();
+    fn fits(&self) {
+        self.0.fits();
     }
 
     ghost faithful = { fixed_field_length_same };
@@ -176,8 +176,8 @@ impl Item for InvocationFieldLength {
 
     ghost val = { invocation_field_length_val };
 
-    fn known(&self) {
-        self.0.known();
+    fn fits(&self) {
+        self.0.fits();
     }
 
     ghost faithful = { invocation_field_length_same };
@@ -214,8 +214,8 @@ impl Item for CounterLength {
 
     ghost val = { counter_length_val };
 
-    fn known(&self) {
-        self.0.known();
+    fn fits(&self) {
+        self.0.fits();
     }
 
     ghost faithful = { counter_length_same };
@@ -252,8 +252,8 @@ impl Item for InitialCounterValue {
 
     ghost val = { initial_counter_value_val };
 
-    fn known(&self) {
-        self.0.known();
+    fn fits(&self) {
+        self.0.fits();
     }
 
     ghost faithful = { initial_counter_value_same };

@@ -48,8 +48,8 @@ impl Item for UniqueIdentifier {
 
     ghost val = { unique_identifier_val };
 
-    fn known(&self) {
-        self.0.known();
+    fn fits(&self) {
+        self.0.fits();
     }
 
     ghost faithful = { unique_identifier_same };
@@ -100,8 +100,8 @@ impl Item for NameValue {
 
     ghost val = { name_value_val };
 
-    fn known(&self) {
-        self.0.known();
+    fn fits(&self) {
+        self.0.fits();
     }
 
     ghost faithful = { name_value_same };
@@ -144,8 +144,8 @@ impl Item for RevocationMessage {
 
     ghost val = { revocation_message_val };
 
-    fn known(&self) {
-        self.0.known();
+    fn fits(&self) {
+        self.0.fits();
     }
 
     ghost faithful = { revocation_message_same };
@@ -188,8 +188,8 @@ impl Item for LinkedObjectIdentifier {
 
     ghost val = { linked_object_identifier_val };
 
-    fn known(&self) {
-        self.0.known();
+    fn fits(&self) {
+        self.0.fits();
     }
 
     ghost faithful = { linked_object_identifier_same };
@@ -232,8 +232,8 @@ impl Item for ApplicationNamespace {
 
     ghost val = { application_namespace_val };
 
-    fn known(&self) {
-        self.0.known();
+    fn fits(&self) {
+        self.0.fits();
     }
 
     ghost faithful = { application_namespace_same };
@@ -276,8 +276,8 @@ impl Item for ApplicationData {
 
     ghost val = { application_data_val };
 
-    fn known(&self) {
-        self.0.known();
+    fn fits(&self) {
+        self.0.fits();
     }
 
     ghost faithful = { application_data_same };

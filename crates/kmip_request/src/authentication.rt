@@ -37,8 +37,8 @@ impl Item for Username {
 
     ghost val = { username_val };
 
-    fn known(&self) {
-        self.0.known();
+    fn fits(&self) {
+        self.0.fits();
     }
 
     ghost faithful = { username_same };
@@ -75,8 +75,8 @@ impl Item for Password {
 
     ghost val = { password_val };
 
-    fn known(&self) {
-        self.0.known();
+    fn fits(&self) {
+        self.0.fits();
     }
 
     ghost faithful = { password_same };
@@ -125,7 +125,7 @@ impl Item for CredentialValue {
 
     ghost val = { credential_value_val };
 
-    fn known(&self) {
+    fn fits(&self) {
         match self {
             CredentialValue::UsernameAndPassword(username, password) => {
                 fits_record::<UsernameAndPasswordRows>(fields![username, password]);
@@ -188,7 +188,7 @@ impl Item for Credential {
 
     ghost val = { credential_val };
 
-    fn known(&self) {
+    fn fits(&self) {
         fits_record::<CredentialRows<'_>>(fields![&self.0, &self.1]);
     }
 
@@ -249,7 +249,7 @@ impl Item for Authentication {
 
     ghost val = { authentication_val };
 
-    fn known(&self) {
+    fn fits(&self) {
         fits_record::<AuthenticationRows>(fields![&self.0]);
     }
 

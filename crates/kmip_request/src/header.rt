@@ -34,7 +34,7 @@ impl Item for ProtocolVersion {
 
     ghost val = { protocol_version_val };
 
-    fn known(&self) {
+    fn fits(&self) {
         fits_record::<ProtocolVersionRows>(fields![&self.0, &self.1]);
     }
 
@@ -86,7 +86,7 @@ impl Item for RequestHeader {
 
     ghost val = { request_header_val };
 
-    fn known(&self) {
+    fn fits(&self) {
         fits_record::<RequestHeaderRows>(fields![&self.0, &self.1, &self.2, &self.3]);
     }
 

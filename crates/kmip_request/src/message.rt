@@ -50,7 +50,7 @@ impl Item for BatchItem {
 
     ghost val = { batch_item_val };
 
-    fn known(&self) {
+    fn fits(&self) {
         fits_record::<BatchItemRows<'_, RequestPayload>>(fields![&self.0, &self.1, &self.2]);
     }
 
@@ -100,7 +100,7 @@ impl Item for RequestMessage {
 
     ghost val = { request_message_val };
 
-    fn known(&self) {
+    fn fits(&self) {
         fits_record::<RequestMessageRows>(fields![&self.0, &self.1]);
     }
 

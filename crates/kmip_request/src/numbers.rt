@@ -19,8 +19,8 @@ impl Item for ProtocolVersionMajor {
 
     ghost val = { major_val };
 
-    fn known(&self) {
-        self.0.known();
+    fn fits(&self) {
+        self.0.fits();
     }
 
     ghost faithful = { major_same };
@@ -51,8 +51,8 @@ impl Item for ProtocolVersionMinor {
 
     ghost val = { minor_val };
 
-    fn known(&self) {
-        self.0.known();
+    fn fits(&self) {
+        self.0.fits();
     }
 
     ghost faithful = { minor_same };
@@ -83,8 +83,8 @@ impl Item for MaximumResponseSize {
 
     ghost val = { size_val };
 
-    fn known(&self) {
-        self.0.known();
+    fn fits(&self) {
+        self.0.fits();
     }
 
     ghost faithful = { size_same };
@@ -115,8 +115,8 @@ impl Item for BatchCount {
 
     ghost val = { count_val };
 
-    fn known(&self) {
-        self.0.known();
+    fn fits(&self) {
+        self.0.fits();
     }
 
     ghost faithful = { count_same };

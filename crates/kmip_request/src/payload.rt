@@ -9,7 +9,7 @@ ghost use Rattle.kmip_request.specs.Values.{request_payload_val};
 ghost use Rattle.kmip_request.specs.Same.{request_payload_same};
 
 mod copy;
-mod known;
+mod fits;
 mod len;
 mod read;
 mod rows;
@@ -129,38 +129,38 @@ impl Item for RequestPayload {
 
     ghost val = { request_payload_val };
 
-    fn known(&self) {
+    fn fits(&self) {
         match self {
-            Self::Create(object_type, template) => known::create(object_type, template),
-            Self::CreateKeyPair(common, private_key, public_key) => known::create_key_pair(
+            Self::Create(object_type, template) => fits::create(object_type, template),
+            Self::CreateKeyPair(common, private_key, public_key) => fits::create_key_pair(
                 common,
                 private_key,
                 public_key,
             ),
-            Self::Register(object_type, template, object) => known::register(
+            Self::Register(object_type, template, object) => fits::register(
                 object_type,
                 template,
                 object,
             ),
-            Self::Locate(attributes) => known::locate(attributes),
-            Self::Get(id, format, compression, specification) => known::get(
+            Self::Locate(attributes) => fits::locate(attributes),
+            Self::Get(id, format, compression, specification) => fits::get(
                 id,
                 format,
                 compression,
                 specification,
             ),
-            Self::GetAttributes(id, names) => known::get_attributes(id, names),
-            Self::GetAttributeList(id) => known::identifier(id),
-            Self::AddAttribute(id, attribute) => known::edit(id, attribute),
-            Self::ModifyAttribute(id, attribute) => known::edit(id, attribute),
-            Self::DeleteAttribute(id, name, index) => known::delete_attribute(id, name, index),
-            Self::Activate(id) => known::identifier(id),
-            Self::Revoke(id, reason, date) => known::revoke(id, reason, date),
-            Self::Destroy(id) => known::identifier(id),
-            Self::Query(functions) => known::query(functions),
-            Self::DiscoverVersions(versions) => known::discover_versions(versions),
-            Self::Sign(id, parameters, data) => known::sign(id, parameters, data),
-            Self::RNGRetrieve(length) => known::rng_retrieve(length),
+            Self::GetAttributes(id, names) => fits::get_attributes(id, names),
+            Self::GetAttributeList(id) => fits::identifier(id),
+            Self::AddAttribute(id, attribute) => fits::edit(id, attribute),
+            Self::ModifyAttribute(id, attribute) => fits::edit(id, attribute),
+            Self::DeleteAttribute(id, name, index) => fits::delete_attribute(id, name, index),
+            Self::Activate(id) => fits::identifier(id),
+            Self::Revoke(id, reason, date) => fits::revoke(id, reason, date),
+            Self::Destroy(id) => fits::identifier(id),
+            Self::Query(functions) => fits::query(functions),
+            Self::DiscoverVersions(versions) => fits::discover_versions(versions),
+            Self::Sign(id, parameters, data) => fits::sign(id, parameters, data),
+            Self::RNGRetrieve(length) => fits::rng_retrieve(length),
         }
     }
 

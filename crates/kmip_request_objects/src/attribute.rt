@@ -45,7 +45,7 @@ impl Item for Attribute {
 
     ghost val = { attribute_val };
 
-    fn known(&self) {
+    fn fits(&self) {
         fits_record::<AttributeRows<'_>>(fields![&self.0, &self.1, &self.2]);
     }
 

@@ -36,8 +36,8 @@ impl Item for MACOrSignature {
 
     ghost val = { mac_or_signature_val };
 
-    fn known(&self) {
-        self.0.known();
+    fn fits(&self) {
+        self.0.fits();
     }
 
     ghost faithful = { mac_or_signature_same };
@@ -83,8 +83,8 @@ impl Item for IVOrCounterOrNonce {
 
     ghost val = { iv_or_counter_or_nonce_val };
 
-    fn known(&self) {
-        self.0.known();
+    fn fits(&self) {
+        self.0.fits();
     }
 
     ghost faithful = { iv_or_counter_or_nonce_same };

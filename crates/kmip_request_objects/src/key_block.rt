@@ -41,7 +41,7 @@ impl Item for KeyValue {
 
     ghost val = { key_value_val };
 
-    fn known(&self) {
+    fn fits(&self) {
         fits_record::<KeyValueRows>(fields![&self.0, &self.1]);
     }
 
@@ -115,7 +115,7 @@ impl Item for KeyBlock {
 
     ghost val = { key_block_val };
 
-    fn known(&self) {
+    fn fits(&self) {
         fits_record::<KeyBlockRows<'_>>(fields![
             &self.0, &self.1, &self.2, &self.3, &self.4, &self.5
         ]);

@@ -50,7 +50,7 @@ impl Item for EncryptionKeyInformation {
 
     ghost val = { encryption_key_information_val };
 
-    fn known(&self) {
+    fn fits(&self) {
         fits_record::<EncryptionKeyInformationRows>(fields![&self.0, &self.1]);
     }
 
@@ -99,7 +99,7 @@ impl Item for MACOrSignatureKeyInformation {
 
     ghost val = { mac_or_signature_key_information_val };
 
-    fn known(&self) {
+    fn fits(&self) {
         fits_record::<MACOrSignatureKeyInformationRows>(fields![&self.0, &self.1]);
     }
 
@@ -174,7 +174,7 @@ impl Item for KeyWrappingData {
 
     ghost val = { key_wrapping_data_val };
 
-    fn known(&self) {
+    fn fits(&self) {
         fits_record::<KeyWrappingDataRows>(fields![
             &self.0, &self.1, &self.2, &self.3, &self.4, &self.5
         ]);
@@ -248,7 +248,7 @@ impl Item for KeyWrappingSpecification {
 
     ghost val = { key_wrapping_specification_val };
 
-    fn known(&self) {
+    fn fits(&self) {
         fits_record::<KeyWrappingSpecificationRows>(fields![&self.0, &self.1, &self.2, &self.3]);
     }
 

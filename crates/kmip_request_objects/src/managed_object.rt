@@ -41,7 +41,7 @@ impl Item for SymmetricKey {
 
     ghost val = { symmetric_key_val };
 
-    fn known(&self) {
+    fn fits(&self) {
         fits_record::<SymmetricKeyRows>(fields![&self.0]);
     }
 
@@ -82,7 +82,7 @@ impl Item for PublicKey {
 
     ghost val = { public_key_val };
 
-    fn known(&self) {
+    fn fits(&self) {
         fits_record::<PublicKeyRows>(fields![&self.0]);
     }
 
@@ -123,7 +123,7 @@ impl Item for PrivateKey {
 
     ghost val = { private_key_val };
 
-    fn known(&self) {
+    fn fits(&self) {
         fits_record::<PrivateKeyRows>(fields![&self.0]);
     }
 
@@ -164,7 +164,7 @@ impl Item for Template {
 
     ghost val = { template_val };
 
-    fn known(&self) {
+    fn fits(&self) {
         fits_record::<TemplateRows>(fields![&self.0]);
     }
 
@@ -225,12 +225,12 @@ impl Item for ManagedObject {
 
     ghost val = { managed_object_val };
 
-    fn known(&self) {
+    fn fits(&self) {
         match self {
-            ManagedObject::SymmetricKey(object) => object.known(),
-            ManagedObject::PublicKey(object) => object.known(),
-            ManagedObject::PrivateKey(object) => object.known(),
-            ManagedObject::Template(object) => object.known(),
+            ManagedObject::SymmetricKey(object) => object.fits(),
+            ManagedObject::PublicKey(object) => object.fits(),
+            ManagedObject::PrivateKey(object) => object.fits(),
+            ManagedObject::Template(object) => object.fits(),
         }
     }
 

@@ -45,7 +45,7 @@ impl Item for Name {
 
     ghost val = { name_val };
 
-    fn known(&self) {
+    fn fits(&self) {
         fits_record::<NameRows>(fields![&self.0, &self.1]);
     }
 

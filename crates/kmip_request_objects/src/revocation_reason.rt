@@ -38,7 +38,7 @@ impl Item for RevocationReason {
 
     ghost val = { revocation_reason_val };
 
-    fn known(&self) {
+    fn fits(&self) {
         fits_record::<RevocationReasonRows>(fields![&self.0, &self.1]);
     }
 

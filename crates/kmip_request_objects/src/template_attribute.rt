@@ -79,7 +79,7 @@ impl Item for TemplateAttribute {
 
     ghost val = { template_attribute_val };
 
-    fn known(&self) {
+    fn fits(&self) {
         fits_record::<TemplateAttributeRows>(fields![&self.0, &self.1]);
     }
 
@@ -151,7 +151,7 @@ impl Item for CommonTemplateAttribute {
 
     ghost val = { common_template_attribute_val };
 
-    fn known(&self) {
+    fn fits(&self) {
         fits_record::<CommonTemplateAttributeRows>(fields![&self.0, &self.1]);
     }
 
@@ -225,7 +225,7 @@ impl Item for PrivateKeyTemplateAttribute {
 
     ghost val = { private_key_template_attribute_val };
 
-    fn known(&self) {
+    fn fits(&self) {
         fits_record::<PrivateKeyTemplateAttributeRows>(fields![&self.0, &self.1]);
     }
 
@@ -299,7 +299,7 @@ impl Item for PublicKeyTemplateAttribute {
 
     ghost val = { public_key_template_attribute_val };
 
-    fn known(&self) {
+    fn fits(&self) {
         fits_record::<PublicKeyTemplateAttributeRows>(fields![&self.0, &self.1]);
     }
 

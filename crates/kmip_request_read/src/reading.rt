@@ -52,7 +52,7 @@ fn read_canonical<T: ReadRoot + WriteItem>(
         Err(ReadError::Unread) => return Err(RequestReadError::NotCanonical),
         Err(ReadError::OutOfMemory) => return Err(RequestReadError::OutOfMemory),
     };
-    value.known();
+    value.fits();
     let written = match to_blob(alloc, &value, T::root_tag()) {
         Ok(written) => written,
         Err(WireError::OutOfMemory) => return Err(RequestReadError::OutOfMemory),

@@ -68,7 +68,7 @@ impl Item for BatchItem {
 
     ghost val = { batch_item_val };
 
-    fn known(&self) {
+    fn fits(&self) {
         fits_record::<BatchItemRows<'_>>(fields![
             &self.operation,
             &self.unique_batch_item_id,

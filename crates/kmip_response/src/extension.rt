@@ -46,7 +46,7 @@ impl Item for MessageExtension {
 
     ghost val = { message_extension_val };
 
-    fn known(&self) {
+    fn fits(&self) {
         fits_record::<MessageExtensionRows>(fields![
             &self.vendor_identification,
             &self.criticality_indicator,

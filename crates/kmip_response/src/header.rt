@@ -38,7 +38,7 @@ impl Item for ProtocolVersion {
 
     ghost val = { protocol_version_val };
 
-    fn known(&self) {
+    fn fits(&self) {
         fits_record::<ProtocolVersionRows>(fields![&self.major, &self.minor]);
     }
 
@@ -102,7 +102,7 @@ impl Item for ResponseHeader {
 
     ghost val = { response_header_val };
 
-    fn known(&self) {
+    fn fits(&self) {
         let timestamp = Timestamp(self.timestamp);
         fits_record::<ResponseHeaderRows>(fields![
             &self.protocol_version,

@@ -41,7 +41,7 @@ impl Item for ResponseMessage {
 
     ghost val = { response_message_val };
 
-    fn known(&self) {
+    fn fits(&self) {
         fits_record::<ResponseMessageRows>(fields![&self.header, &self.batch_items]);
     }
 

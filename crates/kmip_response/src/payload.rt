@@ -116,8 +116,8 @@ impl Item for ResponsePayload {
 
     ghost val = { response_payload_val };
 
-    fn known(&self) {
-        of_payload!(self, payload => payload.known())
+    fn fits(&self) {
+        of_payload!(self, payload => payload.fits())
     }
 
     ghost faithful = { response_payload_same };

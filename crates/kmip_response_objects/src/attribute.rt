@@ -52,7 +52,7 @@ impl Item for Attribute {
 
     ghost val = { attribute_val };
 
-    fn known(&self) {
+    fn fits(&self) {
         fits_record::<AttributeRows<'_>>(fields![&self.name, &self.index, &self.value]);
     }
 

@@ -48,7 +48,7 @@ impl Item for KeyValue {
 
     ghost val = { key_value_val };
 
-    fn known(&self) {
+    fn fits(&self) {
         fits_record::<KeyValueRows>(fields![&self.key_material, &self.attributes]);
     }
 
@@ -150,7 +150,7 @@ impl Item for KeyBlock {
 
     ghost val = { key_block_val };
 
-    fn known(&self) {
+    fn fits(&self) {
         fits_record::<KeyBlockRows<'_>>(fields![
             &self.key_format_type,
             &self.key_compression_type,

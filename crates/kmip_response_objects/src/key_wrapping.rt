@@ -54,7 +54,7 @@ impl Item for EncryptionKeyInformation {
 
     ghost val = { encryption_key_information_val };
 
-    fn known(&self) {
+    fn fits(&self) {
         fits_record::<EncryptionKeyInformationRows>(fields![
             &self.unique_identifier,
             &self.cryptographic_parameters
@@ -139,7 +139,7 @@ impl Item for MACOrSignatureKeyInformation {
 
     ghost val = { mac_or_signature_key_information_val };
 
-    fn known(&self) {
+    fn fits(&self) {
         fits_record::<MACOrSignatureKeyInformationRows>(fields![
             &self.unique_identifier,
             &self.cryptographic_parameters
@@ -242,7 +242,7 @@ impl Item for KeyWrappingData {
 
     ghost val = { key_wrapping_data_val };
 
-    fn known(&self) {
+    fn fits(&self) {
         fits_record::<KeyWrappingDataRows>(fields![
             &self.wrapping_method,
             &self.encryption_key_information,

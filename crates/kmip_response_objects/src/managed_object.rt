@@ -55,7 +55,7 @@ impl Item for Certificate {
 
     ghost val = { certificate_val };
 
-    fn known(&self) {
+    fn fits(&self) {
         fits_record::<CertificateRows>(fields![&self.certificate_type, &self.certificate_value]);
     }
 
@@ -128,7 +128,7 @@ impl Item for SymmetricKey {
 
     ghost val = { symmetric_key_val };
 
-    fn known(&self) {
+    fn fits(&self) {
         fits_record::<SymmetricKeyRows>(fields![&self.key_block]);
     }
 
@@ -188,7 +188,7 @@ impl Item for PublicKey {
 
     ghost val = { public_key_val };
 
-    fn known(&self) {
+    fn fits(&self) {
         fits_record::<PublicKeyRows>(fields![&self.key_block]);
     }
 
@@ -248,7 +248,7 @@ impl Item for PrivateKey {
 
     ghost val = { private_key_val };
 
-    fn known(&self) {
+    fn fits(&self) {
         fits_record::<PrivateKeyRows>(fields![&self.key_block]);
     }
 
@@ -323,12 +323,12 @@ impl Item for ManagedObject {
 
     ghost val = { managed_object_val };
 
-    fn known(&self) {
+    fn fits(&self) {
         match self {
-            ManagedObject::Certificate(object) => object.known(),
-            ManagedObject::SymmetricKey(object) => object.known(),
-            ManagedObject::PublicKey(object) => object.known(),
-            ManagedObject::PrivateKey(object) => object.known(),
+            ManagedObject::Certificate(object) => object.fits(),
+            ManagedObject::SymmetricKey(object) => object.fits(),
+            ManagedObject::PublicKey(object) => object.fits(),
+            ManagedObject::PrivateKey(object) => object.fits(),
         }
     }
 

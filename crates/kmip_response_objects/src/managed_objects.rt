@@ -121,8 +121,8 @@ impl<'b> FieldRow<'b> for ManagedObjects<'b> {
 
     ghost field = { λ x. one (managed_object_val x.now) };
 
-    fn known(lent: &'b ManagedObject) {
-        lent.known();
+    fn fits(lent: &'b ManagedObject) {
+        lent.fits();
     }
 }
 

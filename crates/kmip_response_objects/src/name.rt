@@ -43,7 +43,7 @@ impl Item for Name {
 
     ghost val = { name_val };
 
-    fn known(&self) {
+    fn fits(&self) {
         fits_record::<NameRows>(fields![&self.name, &self.name_type]);
     }
 

@@ -43,7 +43,7 @@ impl Item for TemplateAttribute {
 
     ghost val = { template_attribute_val };
 
-    fn known(&self) {
+    fn fits(&self) {
         fits_record::<TemplateAttributeRows>(fields![&self.name, &self.attributes]);
     }
 

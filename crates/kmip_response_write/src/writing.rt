@@ -35,6 +35,6 @@ pub fn to_vec(alloc: Global, message: &ResponseMessage) -> Result<Blob, WireErro
     ensures read { IfOk result (λ b. IsSettled message.now →
         response_read b ≡ Some (response_message_val message.now)) }
 {
-    message.known();
+    message.fits();
     message_bytes(alloc, message)
 }

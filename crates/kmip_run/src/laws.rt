@@ -85,9 +85,9 @@ fn known_credential(credential: &Option<CredentialType>)
     ensures { FitsCredential credential.now }
 {
     if let Some(CredentialType::UsernameAndPassword(known)) = credential {
-        known.username.known();
+        known.username.fits();
         if let Some(password) = &known.password {
-            password.known();
+            password.fits();
         }
     }
 }

@@ -53,7 +53,7 @@ impl Stamp {
             },
             batch_items,
         };
-        message.known();
+        message.fits();
         to_vec(self.alloc, &message)
     }
 

@@ -53,7 +53,7 @@ pub fn call_known(alloc: Global, call: &Call) -> Result<(), OutOfMemory>
         Fits request_payload (request_payload_val (calls.request_of call.now))) }
 {
     let payload = request_of(alloc, call)?;
-    payload.known();
+    payload.fits();
     Ok(())
 }
 
@@ -89,7 +89,7 @@ pub fn is_made_by(
 {
     request_is_read();
     let request = request_of(alloc, call)?;
-    request.known();
+    request.fits();
     texts_known(&credential);
     match to_vec(alloc, request, credential) {
         Ok(written) => Ok(written.as_slice() == bytes),

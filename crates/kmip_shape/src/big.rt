@@ -81,7 +81,7 @@ impl<'b, const TAG: u32> FieldRow<'b> for BigOne<TAG> {
 
     ghost field = { λ x. one (bytes x.now) };
 
-    fn known(lent: &'b Blob) {
+    fn fits(lent: &'b Blob) {
         fits_bytes(lent.as_slice());
     }
 }
@@ -164,7 +164,7 @@ impl<'b, const TAG: u32> FieldRow<'b> for BigOpt<TAG> {
 
     ghost field = { λ x. optional bytes x.now };
 
-    fn known(lent: &'b Option<Blob>) {
+    fn fits(lent: &'b Option<Blob>) {
         if let Some(lent) = lent {
             fits_bytes(lent.as_slice());
         }

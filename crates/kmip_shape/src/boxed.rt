@@ -12,8 +12,8 @@ impl<T: Item> Item for Boxed<T> {
 
     ghost val = { T.val };
 
-    fn known(&self) {
-        self.get().known();
+    fn fits(&self) {
+        self.get().fits();
     }
 
     ghost faithful = { T.faithful };

@@ -98,7 +98,7 @@ impl<'b, T: Item + 'b> FieldRow<'b> for TagOpt<T> {
 
     ghost field = { λ x. optional T.val x.now };
 
-    fn known(lent: &'b Option<T>) {
+    fn fits(lent: &'b Option<T>) {
         fits_optional(lent);
     }
 }

@@ -45,7 +45,7 @@ impl<T: Enumeration> Item for T {
 
     ghost val = { enumeration_val T.line };
 
-    fn known(&self) {
+    fn fits(&self) {
         let _variant = *self;
     }
 

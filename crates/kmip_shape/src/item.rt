@@ -18,7 +18,7 @@ pub trait Item {
     ghost val: { Self → Val };
 
     /// Lemma: a value fits the shape. The call does nothing.
-    fn known(&self)
+    fn fits(&self)
         ensures { Fits shape (val self.now) };
 
     /// Values of the same meaning are equal.

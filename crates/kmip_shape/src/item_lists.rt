@@ -140,7 +140,7 @@ pub(crate) fn fits_optional<T: Item>(item: &Option<T>)
     ensures field { field_fits (optional T.val item.now) NoCase T.shape }
 {
     if let Some(item) = item {
-        item.known();
+        item.fits();
     }
 }
 
@@ -150,7 +150,7 @@ pub fn fits_items<T: Item>(items: &[T])
 {
     let mut rest = items;
     while let [item, tail @ ..] = rest {
-        item.known();
+        item.fits();
         rest = tail;
     }
 }

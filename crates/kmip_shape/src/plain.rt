@@ -31,7 +31,7 @@ impl Item for Text {
 
     ghost val = { λ x. text x };
 
-    fn known(&self) {
+    fn fits(&self) {
         let _text = self.as_str();
     }
 
@@ -68,7 +68,7 @@ impl Item for Blob {
 
     ghost val = { λ x. bytes x };
 
-    fn known(&self) {
+    fn fits(&self) {
         fits_bytes(self.as_slice());
     }
 
@@ -105,7 +105,7 @@ impl Item for i32 {
 
     ghost val = { λ x. Number x };
 
-    fn known(&self) {
+    fn fits(&self) {
         let _value = *self;
     }
 
@@ -142,7 +142,7 @@ impl Item for i64 {
 
     ghost val = { λ x. Number x };
 
-    fn known(&self) {
+    fn fits(&self) {
         let _value = *self;
     }
 
@@ -179,7 +179,7 @@ impl Item for bool {
 
     ghost val = { λ x. Truth x };
 
-    fn known(&self) {
+    fn fits(&self) {
         let _value = *self;
     }
 
@@ -216,7 +216,7 @@ impl Item for u64 {
 
     ghost val = { λ x. Number (pos x) };
 
-    fn known(&self) {
+    fn fits(&self) {
         let _value = *self;
     }
 
@@ -253,7 +253,7 @@ impl Item for u32 {
 
     ghost val = { λ x. Number (pos x) };
 
-    fn known(&self) {
+    fn fits(&self) {
         let _value = *self;
     }
 

@@ -49,7 +49,7 @@ pub trait FieldRow<'b> {
     ghost field: { Self.Lent → Field };
 
     /// Lemma: the field fits the row. The call does nothing.
-    fn known(lent: Self::Lent)
+    fn fits(lent: Self::Lent)
         ensures mark { mark_fits mark (field lent) }
         ensures field { field_fits (field lent) NoCase shape };
 }
@@ -93,7 +93,7 @@ pub trait FieldRows<'b> {
     ghost fields: { Self.Lent → Fields };
 
     /// Lemma: the fields fit the rows. The call does nothing.
-    fn known(lent: Self::Lent)
+    fn fits(lent: Self::Lent)
         ensures { fields_fit (fields lent) NoCase row_list };
 }
 
@@ -156,8 +156,8 @@ impl<'b, T: Item + 'b, const TAG: u32> FieldRow<'b> for One<T, TAG> {
 
     ghost field = { λ x. one (T.val x.now) };
 
-    fn known(lent: &'b T) {
-        lent.known();
+    fn fits(lent: &'b T) {
+        lent.fits();
     }
 }
 
@@ -188,8 +188,8 @@ impl<'b, T: Item + 'b, const TAG: u32> FieldRow<'b> for ChosenOne<'b, T, TAG> {
 
     ghost field = { λ x. one (T.val x.now) };
 
-    fn known(lent: &'b T) {
-        lent.known();
+    fn fits(lent: &'b T) {
+        lent.fits();
     }
 }
 
@@ -220,7 +220,7 @@ impl<'b, T: Item + 'b, const TAG: u32> FieldRow<'b> for Opt<T, TAG> {
 
     ghost field = { λ x. optional T.val x.now };
 
-    fn known(lent: &'b Option<T>) {
+    fn fits(lent: &'b Option<T>) {
         fits_optional(lent);
     }
 }
@@ -252,7 +252,7 @@ impl<'b, T: Item + 'b, const TAG: u32> FieldRow<'b> for ChosenOpt<'b, T, TAG> {
 
     ghost field = { λ x. optional T.val x.now };
 
-    fn known(lent: &'b Option<T>) {
+    fn fits(lent: &'b Option<T>) {
         fits_optional(lent);
     }
 }
@@ -284,7 +284,7 @@ impl<'b, T: Item + 'b, const TAG: u32> FieldRow<'b> for Many<T, TAG> {
 
     ghost field = { λ x. many (vals T.val x.now) };
 
-    fn known(lent: &'b List<T>) {
+    fn fits(lent: &'b List<T>) {
         fits_list(lent);
     }
 }
@@ -316,7 +316,7 @@ impl<'b, T: Item + 'b, const TAG: u32> FieldRow<'b> for NonEmpty<T, TAG> {
 
     ghost field = { λ x. many (vals T.val x.now) };
 
-    fn known(lent: &'b List<T>) {
+    fn fits(lent: &'b List<T>) {
         fits_list(lent);
     }
 }
@@ -348,7 +348,7 @@ impl<'b, T: Item + 'b, const TAG: u32> FieldRow<'b> for OptMany<T, TAG> {
 
     ghost field = { λ x. optional_list T.val x.now };
 
-    fn known(lent: &'b Option<List<T>>) {
+    fn fits(lent: &'b Option<List<T>>) {
         fits_optional_list(lent);
     }
 }
@@ -376,7 +376,7 @@ impl<'b> FieldRows<'b> for End {
 
     ghost fields = { λ _. no_fields };
 
-    fn known(_lent: ()) {}
+    fn fits(_lent: ()) {}
 }
 
 impl<'b> WriteRows<'b> for End {
@@ -414,10 +414,10 @@ impl<'b, A: FieldRow<'b>, B: FieldRows<'b>> FieldRows<'b> for Row<A, B> {
 
     ghost fields = { λ lent. and_field (A.field lent.0) (B.fields lent.1) };
 
-    fn known(lent: (A::Lent, B::Lent)) {
+    fn fits(lent: (A::Lent, B::Lent)) {
         let (field, rest) = lent;
-        A::known(field);
-        B::known(rest);
+        A::fits(field);
+        B::fits(rest);
     }
 }
 
@@ -474,10 +474,10 @@ impl<'b, A: FieldRow<'b>, B: FieldRows<'b>> FieldRows<'b> for Choosing<A, B> {
 
     ghost fields = { λ lent. and_field (A.field lent.0) (B.fields lent.1) };
 
-    fn known(lent: (A::Lent, B::Lent)) {
+    fn fits(lent: (A::Lent, B::Lent)) {
         let (field, rest) = lent;
-        A::known(field);
-        B::known(rest);
+        A::fits(field);
+        B::fits(rest);
     }
 }
 
@@ -531,7 +531,7 @@ impl<'b, A: ShowRow<'b>, B: ShowRows<'b>> ShowRows<'b> for Choosing<A, B> {
 pub fn fits_record<'b, R: FieldRows<'b>>(lent: R::Lent)
     ensures { fields_fit (R.fields lent) NoCase R.row_list }
 {
-    R::known(lent);
+    R::fits(lent);
 }
 
 /// The length of a record's structure with its head, and `None` exactly where it has no canonical

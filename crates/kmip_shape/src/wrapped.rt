@@ -35,7 +35,7 @@ impl Item for BigInteger {
 
     ghost val = { λ x. bytes x.0 };
 
-    fn known(&self) {
+    fn fits(&self) {
         fits_bytes(self.0.as_slice());
     }
 
@@ -78,7 +78,7 @@ impl Item for Timestamp {
 
     ghost val = { λ x. date_val x.0 };
 
-    fn known(&self) {
+    fn fits(&self) {
         let _seconds = self.0;
     }
 

@@ -162,13 +162,13 @@ impl Values {
     }
 
     /// The members fit. It does nothing.
-    #[cycle(known_attribute)]
-    fn known(&self)
+    #[cycle(fits_attribute)]
+    fn fits(&self)
         ensures { vals_fit (vals_of self.now) NoCase attribute_value }
     {
         let mut rest = self.items.as_slice();
         while let [item, tail @ ..] = rest {
-            item.known();
+            item.fits();
             rest = tail;
         }
     }
@@ -194,34 +194,34 @@ impl Item for AttributeValue {
 
     ghost val = { attribute_value_val };
 
-    #[cycle(known_attribute)]
-    fn known(&self) {
+    #[cycle(fits_attribute)]
+    fn fits(&self) {
         match self {
             AttributeValue::Name(value, kind) => fits_record::<NameRows>(fields![value, kind]),
-            AttributeValue::ObjectType(object_type) => object_type.known(),
-            AttributeValue::CryptographicAlgorithm(algorithm) => algorithm.known(),
-            AttributeValue::CryptographicParameters(parameters) => parameters.known(),
-            AttributeValue::State(state) => state.known(),
-            AttributeValue::ObjectGroup(text) => text.known(),
+            AttributeValue::ObjectType(object_type) => object_type.fits(),
+            AttributeValue::CryptographicAlgorithm(algorithm) => algorithm.fits(),
+            AttributeValue::CryptographicParameters(parameters) => parameters.fits(),
+            AttributeValue::State(state) => state.fits(),
+            AttributeValue::ObjectGroup(text) => text.fits(),
             AttributeValue::Link(kind, identifier) => {
                 fits_record::<LinkRows>(fields![kind, identifier]);
             }
             AttributeValue::ApplicationSpecificInformation(namespace, data) => {
                 fits_record::<InformationRows>(fields![namespace, data]);
             }
-            AttributeValue::ContactInformation(text) => text.known(),
-            AttributeValue::Structure(values) => values.known(),
-            AttributeValue::Integer(number) => number.known(),
-            AttributeValue::LongInteger(number) => number.known(),
-            AttributeValue::BigInteger(bytes) => bytes.known(),
+            AttributeValue::ContactInformation(text) => text.fits(),
+            AttributeValue::Structure(values) => values.fits(),
+            AttributeValue::Integer(number) => number.fits(),
+            AttributeValue::LongInteger(number) => number.fits(),
+            AttributeValue::BigInteger(bytes) => bytes.fits(),
             AttributeValue::Enumeration(number) => {
                 let _number = *number;
             }
-            AttributeValue::Boolean(truth) => truth.known(),
-            AttributeValue::TextString(text) => text.known(),
-            AttributeValue::ByteString(bytes) => bytes.known(),
-            AttributeValue::DateTime(seconds) => seconds.known(),
-            AttributeValue::Interval(seconds) => seconds.known(),
+            AttributeValue::Boolean(truth) => truth.fits(),
+            AttributeValue::TextString(text) => text.fits(),
+            AttributeValue::ByteString(bytes) => bytes.fits(),
+            AttributeValue::DateTime(seconds) => seconds.fits(),
+            AttributeValue::Interval(seconds) => seconds.fits(),
         }
     }
 

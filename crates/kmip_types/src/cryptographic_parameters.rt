@@ -240,7 +240,7 @@ impl Item for CryptographicParameters {
 
     ghost val = { cryptographic_parameters_val };
 
-    fn known(&self) {
+    fn fits(&self) {
         fits_record::<CryptographicParametersRows>(fields![
             &self.block_cipher_mode,
             &self.padding_method,

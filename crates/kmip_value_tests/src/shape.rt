@@ -59,7 +59,7 @@ fn items_and_their_copies(rt: HostRuntime) {
     let bytes = bytes_of(&rt, alloc, LETTER);
     let item = ItemRef::root(&bytes).expect(&rt, "an item");
     let text = Boxed::<Text>::read(alloc, Outer::none(), item).expect(&rt, "a text");
-    text.known();
+    text.fits();
     let text = text.into_inner();
     assert_eq!(&rt; text.as_str(), "a");
 }

@@ -156,7 +156,7 @@ fn show_result(
     lines_are_json();
     match answer {
         Ok(payload) => {
-            payload.known();
+            payload.fits();
             push_answer(alloc, style, call, payload, line)?;
             Ok(Ending::Answered)
         }

@@ -124,7 +124,7 @@ fn tell_payload(
             Ok(Ending::Lost)
         }
         None => {
-            payload.known();
+            payload.fits();
             push_answer(alloc, Style::Json, call, payload, line)?;
             Ok(Ending::Answered)
         }

@@ -51,7 +51,7 @@ impl Item for GetAttributesResponsePayload {
 
     ghost val = { get_attributes_payload_val };
 
-    fn known(&self) {
+    fn fits(&self) {
         fits_record::<GetAttributesResponsePayloadRows>(fields![
             &self.unique_identifier,
             &self.attributes
@@ -136,7 +136,7 @@ impl Item for GetAttributeListResponsePayload {
 
     ghost val = { get_attribute_list_payload_val };
 
-    fn known(&self) {
+    fn fits(&self) {
         fits_record::<GetAttributeListResponsePayloadRows>(fields![
             &self.unique_identifier,
             &self.attributes
@@ -222,7 +222,7 @@ impl Item for AttributeEditResponsePayload {
 
     ghost val = { attribute_edit_payload_val };
 
-    fn known(&self) {
+    fn fits(&self) {
         fits_record::<AttributeEditResponsePayloadRows>(fields![
             &self.unique_identifier,
             &self.attribute

@@ -45,7 +45,7 @@ impl Item for SignResponsePayload {
 
     ghost val = { sign_payload_val };
 
-    fn known(&self) {
+    fn fits(&self) {
         fits_record::<SignResponsePayloadRows>(fields![
             &self.unique_identifier,
             &self.signature_data
@@ -124,7 +124,7 @@ impl Item for RNGRetrieveResponsePayload {
 
     ghost val = { rng_retrieve_payload_val };
 
-    fn known(&self) {
+    fn fits(&self) {
         fits_record::<RNGRetrieveResponsePayloadRows>(fields![&self.random_bytes]);
     }
 

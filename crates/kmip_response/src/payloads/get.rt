@@ -50,7 +50,7 @@ impl Item for GetResponsePayload {
 
     ghost val = { get_payload_val };
 
-    fn known(&self) {
+    fn fits(&self) {
         fits_record::<GetResponsePayloadRows<'_>>(fields![
             &self.object_type,
             &self.unique_identifier,

@@ -59,7 +59,7 @@ impl Item for CreateResponsePayload {
 
     ghost val = { create_payload_val };
 
-    fn known(&self) {
+    fn fits(&self) {
         fits_record::<CreateResponsePayloadRows>(fields![
             &self.object_type,
             &self.unique_identifier,
@@ -155,7 +155,7 @@ impl Item for CreateKeyPairResponsePayload {
 
     ghost val = { create_key_pair_payload_val };
 
-    fn known(&self) {
+    fn fits(&self) {
         fits_record::<CreateKeyPairResponsePayloadRows>(fields![
             &self.private_key_unique_identifier,
             &self.public_key_unique_identifier
@@ -249,7 +249,7 @@ impl Item for RegisterResponsePayload {
 
     ghost val = { register_payload_val };
 
-    fn known(&self) {
+    fn fits(&self) {
         fits_record::<RegisterResponsePayloadRows>(fields![
             &self.unique_identifier,
             &self.template_attributes
@@ -328,7 +328,7 @@ impl Item for LocateResponsePayload {
 
     ghost val = { locate_payload_val };
 
-    fn known(&self) {
+    fn fits(&self) {
         fits_record::<LocateResponsePayloadRows>(fields![&self.unique_identifiers]);
     }
 
@@ -394,7 +394,7 @@ impl Item for UniqueIdentifierResponsePayload {
 
     ghost val = { unique_identifier_payload_val };
 
-    fn known(&self) {
+    fn fits(&self) {
         fits_record::<UniqueIdentifierResponsePayloadRows>(fields![&self.unique_identifier]);
     }
 

@@ -43,7 +43,7 @@ impl Item for QueryResponsePayload {
 
     ghost val = { query_payload_val };
 
-    fn known(&self) {
+    fn fits(&self) {
         fits_record::<QueryResponsePayloadRows>(fields![
             &self.operations,
             &self.object_types,
@@ -135,7 +135,7 @@ impl Item for DiscoverVersionsResponsePayload {
 
     ghost val = { discover_versions_payload_val };
 
-    fn known(&self) {
+    fn fits(&self) {
         fits_record::<DiscoverVersionsResponsePayloadRows>(fields![&self.supported_versions]);
     }
 

@@ -22,4 +22,4 @@ returns-in_ok-push_answer-in-None c =
     c.args.first.now c.args.line.now c.push_answer.new.line is
     c.in_ok-push_answer-in-None.ensures
     (c.lines_are_json.ensures.payload c.args.call.now (response_payload_val c.args.payload.now)
-    c.known.ensures c.requires)
+    c.fits.ensures c.requires)

@@ -1,5 +1,5 @@
 use Rattle.kmip_shape.proofs.Variants.{found_in_table}
-use Rattle.kmip_shape.proofs.enumeration.AnyItem.known.Goals as goal
+use Rattle.kmip_shape.proofs.enumeration.AnyItem.fits.Goals as goal
 
 pub returns : goal.returns
 returns g c = found_in_table g.T.Enumeration.line g.T.Enumeration.variants _ _
