@@ -1,5 +1,5 @@
 #!/bin/bash
-# The checks of the clients that need no server: linters, and the cases of tools/live against fake servers.
+# The checks of the clients that need no server: linters, and the cases against fake servers (tools/live/harness.sh).
 #
 #   tools/check_clients.sh [--built DIR] [--seconds N] [--least NAME=N].. [--client NAME].. [--topic NAME]..
 #
@@ -18,41 +18,19 @@ set -u
 top=$(cd "$(dirname "$0")/.." && pwd)
 . "$top/tools/live/harness.sh"
 
-usage() {
-    sed -n '4s/^# */usage: /p' "$0" >&2
-    exit 2
-}
-built='' chosen=() least=() until=190 again=1 may_skip=1
-while (($#)); do
-    case $1 in
-    --help) sed -n '2,/^# shellcheck/{/shellcheck/d;s/^# \{0,1\}//p}' "$0" && exit ;;
-    --built | --seconds | --least | --client | --topic)
-        (($# > 1)) || usage
-        case $1 in
-        --built) built=$(cd "$2" && pwd) || exit 2 ;;
-        --seconds) until=$2 ;;
-        --least)
-            [[ $2 =~ ^[a-z]+=[0-9]+$ ]] || usage
-            least+=("$2")
-            ;;
-        --client) chosen+=("$2") ;;
-        --topic) topics+=("$2") ;;
-        esac
-        shift
-        ;;
-    *) usage ;;
+least=() until=190 again=1 may_skip=1
+own_words() {
+    case $1=${2-} in
+    --seconds=[0-9]*) until=$2 ;;
+    --least=[a-z]*=[0-9]*) least+=("$2") ;;
+    *) return 1 ;;
     esac
-    shift
-done
-((${#chosen[@]} == 0)) || clients=("${chosen[@]}")
-for who in "${clients[@]}"; do [[ -d $here/$who ]] || give_up "there is no client $who"; done
-
-if ! run=$(mktemp -d -t kmip-check-XXXXXX); then
+}
+read_words "$@"
+if ! make_run check; then
     printf 'skipped all: no temporary folder can be made\n0 passed, 0 failed\n'
     exit 0
 fi
-trap 'rm -rf "$run"' EXIT
-trap 'exit 130' INT TERM
 
 # The files of the clients, the tools and the tables that end so.
 files_of() { # REGEX
@@ -104,7 +82,7 @@ begin_builds() {
         if made=$(proved_build "$top/crates/$it/out/$file"); then
             cp "$made" "$run/$file"
         else
-            TMPDIR=$run/tmp timeout "$left" "$python" "$top/tools/unproved_build.py" "$kind" "$it" "$run/$file" "$top" \
+            TMPDIR=$run/tmp timeout "$left" "$python" "$top/tools/build.py" --unproved "$kind" "$it" "$run/$file" "$top" \
                 >"$run/$kind.log" 2>&1 &
             builders[$kind]=$!
             started+=($!)
@@ -194,14 +172,7 @@ check() {
         echo "skipped the clients: there is no $missing"
         return
     fi
-    unset KMIP_USER KMIP_PASSWORD KMIP_LIMIT KMIP_RECORD KMIP_TIMEOUT KMIP_PASSPHRASE KMIP_PASSPHRASE_FILE
-    certs=$run/certs
-    if "$here/certs.sh" "$certs" >"$run/certs.log" 2>&1 && start_fakes; then
-        cases
-    else
-        echo 'FAILED  the certificates are not made, or the fake servers are not reached at localhost'
-        tail -5 "$run/certs.log" | sed 's/^/        /'
-    fi
+    begin_servers && cases
 }
 
 count check

@@ -16,7 +16,6 @@ What a test waits for is told, and takes no time of its own: a busy machine chan
 last bytes, and `control` says what `held` has.
 """
 import collections
-import contextlib
 import hashlib
 import importlib
 import os
@@ -24,15 +23,15 @@ import socket
 import ssl
 import struct
 import sys
-import tempfile
 import threading
 import time
 
 import records
+from connections import by_records, by_steps, connection, context_of, finish, listen, serve_each
 from registry import (ADD_ATTRIBUTE, CREATE_KEY_PAIR, DELETE_ATTRIBUTE, FAKES, GET, MODIFY_ATTRIBUTE, PLAIN, QUERY,
-                      OWN_IDS, RNG_RETRIEVE, SIGN, fake, own_ids, plain)
+                      RNG_RETRIEVE, SIGN, fake, own_ids, plain)
 from ttlv import (FAILED, PENDING, SUCCESS, UNDONE, batch_item, date, enumeration, header, id_of, identified, identifier, item,
-                  items_of, message_of, nested, octets, operation_of, response, structure, text, value_of)
+                  items_of, nested, octets, operation_of, response, structure, text, value_of)
 
 for it in 'objects', 'curves':      # fakes of their own
     importlib.import_module(it)
@@ -651,138 +650,6 @@ def tickets_after(wire, request):
     tickets(wire, request)
 
 
-class Together:
-    """The TLS of a server, whose bytes go when they are flushed, or before it waits for more: so all go at once."""
-
-    def __init__(self, wire, context):
-        self.wire, self.came, self.goes = wire, ssl.MemoryBIO(), ssl.MemoryBIO()
-        self.tls = context.wrap_bio(self.came, self.goes, server_side=True)
-        self.write = self.tls.write
-        self.in_steps(self.tls.do_handshake)
-
-    def in_steps(self, call, *words):
-        while True:
-            try:
-                return call(*words)
-            except ssl.SSLWantReadError:
-                self.flush()
-                piece = self.wire.recv(65536)
-                if piece:
-                    self.came.write(piece)
-                else:
-                    self.came.write_eof()
-
-    def recv(self, count):
-        return self.in_steps(self.tls.read, count)
-
-    def say_end(self):
-        with contextlib.suppress(ssl.SSLWantReadError):
-            self.tls.unwrap()
-
-    def flush(self):
-        self.wire.sendall(self.goes.read())
-
-
-def finish(wire):
-    """Ends a connection. All that still comes is read: of bytes that are unread at its end the system makes a reset."""
-    wire.shutdown(socket.SHUT_WR)
-    while wire.recv(65536):
-        pass
-
-
-def by_steps(name, context, plain):
-    """A connection of `early` or `end_after`."""
-    with plain:
-        wire = Together(plain, context)
-        if name == 'early':
-            wire.write(GOOD_QUERY)
-        wire.flush()
-        request = message_of(wire)
-        if request and FAKES[name](wire, request):
-            finish(plain)
-
-
-class Recorded:
-    """A connection whose records are made by records.py."""
-
-    def __init__(self, plain, tls, made):
-        self.recv, self.sendall, self.records = tls.recv, plain.sendall, made
-
-
-def by_records(name, certs, plain):
-    """A connection of `tickets` or `tickets_after`."""
-    with plain, tempfile.NamedTemporaryFile() as log:
-        context = context_of(certs, 'server')
-        context.num_tickets, context.minimum_version = 0, ssl.TLSVersion.TLSv1_3
-        context.keylog_filename = log.name
-        tls = Together(plain, context)
-        tls.flush()
-        with records.records_of(tls.tls, log.name) as made:
-            FAKES[name](Recorded(plain, tls, made), message_of(tls))
-
-
-class Wire(ssl.SSLSocket):
-    """A connection on which a response has the Unique Batch Item ID of its request."""
-
-    name = None
-
-    def sendall(self, data, flags=0):
-        super().sendall(identified(data, self.name), flags)
-
-
-def connection(name, context, plain):
-    with context.wrap_socket(plain, server_side=True, suppress_ragged_eofs=False) as wire:
-        if name == 'closing':
-            wire.recv(10)
-            wire.shutdown(socket.SHUT_WR)
-            time.sleep(0.3)
-            return
-        try:
-            while True:
-                request = message_of(wire)
-                wire.name = None if name in OWN_IDS else id_of(request)
-                if not request and hasattr(wire, 'end'):
-                    wire.end.how = 'in order'
-                if not request or FAKES[name](wire, request):
-                    break
-        finally:
-            if hasattr(wire, 'end'):
-                wire.end.told.set()
-        if request and wire.fileno() >= 0:
-            finish(wire)
-
-
-def serve_each(listener, serve):
-    """Has `serve` serve each connection, in a thread of its own."""
-    def quietly(wire):
-        try:
-            serve(wire)
-        except OSError:
-            pass
-
-    while True:
-        wire, _ = listener.accept()
-        threading.Thread(target=quietly, args=(wire,), daemon=True).start()
-
-
-def listen(name, serve, host='127.0.0.1'):
-    family = socket.AF_INET6 if ':' in host else socket.AF_INET
-    listener = socket.create_server((host, 0), backlog=100, family=family)
-    print(name, listener.getsockname()[1], flush=True)
-    threading.Thread(target=serve, args=(listener,), daemon=True).start()
-
-
-def context_of(certs, name):
-    context = ssl.SSLContext(ssl.PROTOCOL_TLS_SERVER)
-    context.load_cert_chain('%s/%s.pem' % (certs, name), '%s/%s.key' % (certs, name))
-    context.load_verify_locations(certs + '/ca.pem')
-    context.verify_mode = ssl.CERT_OPTIONAL
-    context.sslsocket_class = Wire
-    # So that it is known whether a connection was ended in order.
-    context.options &= ~getattr(ssl, 'OP_IGNORE_UNEXPECTED_EOF', 0)
-    return context
-
-
 def reach(certs, ports):
     with open(ports, encoding='ascii') as lines:
         port = dict(line.split() for line in lines if ' ' in line)['good']
@@ -809,13 +676,16 @@ def main():
 
     def over_tls(name, certificate):
         context = context_of(certs, certificate)
+        serve, words = connection, (name, context)
         if name == 'early':
             # In TLS 1.2 the last bytes of the handshake are the server's.
             context.maximum_version = ssl.TLSVersion.TLSv1_2
-        serve = by_steps if name in ('early', 'end_after') else connection
-        if name.startswith('tickets'):
-            return lambda listener: serve_each(listener, lambda wire: by_records(name, certs, wire))
-        return lambda listener: serve_each(listener, lambda wire: serve(name, context, wire))
+            serve, words = by_steps, (name, context, GOOD_QUERY)
+        elif name == 'end_after':
+            serve, words = by_steps, (name, context, b'')
+        elif name.startswith('tickets'):
+            serve, words = by_records, (name, certs)
+        return lambda listener: serve_each(listener, lambda wire: serve(wire, *words))
 
     for name in FAKES:
         listen(name, over_tls(name, 'server'))

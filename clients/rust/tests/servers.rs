@@ -1,4 +1,4 @@
-//! Sessions over TLS with servers that make it hard. tools/live/rust/unit.sh starts them, and says
+//! Sessions over TLS with servers that make it hard. tests/live/unit.sh starts them, and says
 //! where they are: METSUWAN_FAKES is the file of their ports, METSUWAN_CERTS the folder of their
 //! certificates.
 use metsuwan::{BatchErrorContinuationOption, Error, EventKind, Item, Pool, Result, Word};
