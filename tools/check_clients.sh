@@ -20,11 +20,8 @@ top=$(cd "$(dirname "$0")/.." && pwd)
 
 least=() until=190 again=1 may_skip=1
 own_words() {
-    case $1=${2-} in
-    --seconds=[0-9]*) until=$2 ;;
-    --least=[a-z]*=[0-9]*) least+=("$2") ;;
-    *) return 1 ;;
-    esac
+    [[ $1=${2-} =~ ^--(seconds=[0-9]+|least=[a-z]+=[0-9]+)$ ]] || return
+    if [[ $1 == --seconds ]]; then until=$2; else least+=("$2"); fi
 }
 read_words "$@"
 if ! make_run check; then

@@ -28,9 +28,10 @@ own_words() {
     case $1=${2-} in
     --unproved=*) unproved=(--unproved) took=1 ;;
     --keep=*) keep=1 took=1 ;;
-    --measure=[0-9]*) measure=$2 ;;
-    --slack=[1-9] | --slack=[1-9][0-9]) slack=$2 ;;
-    *) return 1 ;;
+    *)
+        [[ $1=${2-} =~ ^--(measure=[0-9]+|slack=[1-9][0-9]?)$ ]] || return
+        if [[ $1 == --measure ]]; then measure=$2; else slack=$2; fi
+        ;;
     esac
 }
 read_words "$@"

@@ -47,13 +47,13 @@ def tests():
 
 def session_failures(run):
     """Refuses each request for memory of the session in turn, and says how often what was sent is wrong."""
-    whole, told, asked = run(0)
+    whole, output, asked = run(0)
     if whole != 0:
-        sys.exit("the session fails with ample memory:\n" + told)
+        sys.exit("the session fails with ample memory:\n" + output)
     failures = ended = 0
     for number in range(1, asked + 1):
-        status, told, _ = run(number)
-        if status != 0 and "sent otherwise" in told:
+        status, output, _ = run(number)
+        if status != 0 and "sent otherwise" in output:
             failures += 1
             print(f"a session: request {number} refused: {told}")
         ended += status == 0

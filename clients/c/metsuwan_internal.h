@@ -21,8 +21,8 @@ typedef struct {
 } kmip_room;
 
 /* Makes room for so many bytes, and keeps those that are there; false where memory runs out. */
-HIDDEN bool kmip_room_has(kmip_room *it, size_t room);
-HIDDEN void kmip_room_free(kmip_room *it);
+HIDDEN bool kmip_room_has(kmip_room *into, size_t room);
+HIDDEN void kmip_room_free(kmip_room *into);
 
 /* A copy of a text, or a null pointer where memory runs out. */
 HIDDEN char *kmip_copy_of(const char *text);
@@ -146,8 +146,8 @@ typedef struct {
     size_t count;
     int marks;
 } kmip_queue;
-HIDDEN void kmip_queue_take(kmip_queue *it);
-HIDDEN void kmip_queue_give_back(kmip_queue *it);
+HIDDEN void kmip_queue_take(kmip_queue *queue);
+HIDDEN void kmip_queue_give_back(kmip_queue *queue);
 
 /* The kind of the error that a line has, after a call with this status. */
 HIDDEN kmip_kind kmip_kind_of(const char *line, int status);

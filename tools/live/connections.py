@@ -106,7 +106,7 @@ def connection(plain, name, context):
                     break
         finally:
             if hasattr(wire, 'end'):
-                wire.end.told.set()
+                wire.end.is_over.set()
         if request and wire.fileno() >= 0:
             finish(wire)
 

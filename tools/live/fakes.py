@@ -262,7 +262,7 @@ class End:
     """How a connection of `ends` ends, and when."""
 
     def __init__(self):
-        self.how, self.told = 'torn', threading.Event()
+        self.how, self.is_over = 'torn', threading.Event()
 
 
 LAST_END = {}           # by the user: that of the last connection
@@ -273,7 +273,7 @@ def ends(wire, request):
     """answers one query; the vendor is how the connection of this user before it ended: `in order`, `torn`, or `none`"""
     user, how = value_of(request, '420099', 7), 'none'
     if user in LAST_END:
-        LAST_END[user].told.wait(60)
+        LAST_END[user].is_over.wait(60)
         how = LAST_END[user].how
     wire.end = LAST_END[user] = End()
     wire.sendall(response(QUERY, [text(0x42009D, how)]))

@@ -111,7 +111,8 @@ groups=()
 stop_all() {
     local process
     for process in ${started[@]+"${started[@]}"}; do kill "$process" 2>/dev/null; done
-    for process in ${groups[@]+"${groups[@]}"}; do kill -- "-$process" 2>/dev/null; done
+    # (a job may have been begun, and not have come to be one of `groups`)
+    for process in ${groups[@]+"${groups[@]}"} $(jobs -p); do kill -- "-$process" 2>/dev/null; done
 }
 
 verdict() { # WHAT

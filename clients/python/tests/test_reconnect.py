@@ -65,8 +65,8 @@ class Logs(unittest.TestCase):
             kmip.sign('the key', b'the data')
             kmip.operation('Encrypt', [Item('UniqueIdentifier', 'the key')])
         text = '\n'.join(log.output)
-        for told in ('sign: status 0', 'Encrypt: status 0', 'ms'):
-            self.assertIn(told, text)
+        for words in ('sign: status 0', 'Encrypt: status 0', 'ms'):
+            self.assertIn(words, text)
         for secret in ('the key', 'the%20key', 'the data', 'signature'):
             self.assertNotIn(secret, text)
 

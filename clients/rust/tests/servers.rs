@@ -298,18 +298,18 @@ fn an_encrypted_key() {
 }
 
 /// What a log was told.
-type Told = Arc<Mutex<Vec<(EventKind, String)>>>;
+type Seen = Arc<Mutex<Vec<(EventKind, String)>>>;
 
 /// A client that reconnects, as this user, and its log.
-fn reconnecting(fake: &str, user: &str) -> (TlsClient, Told) {
-    let told = Told::default();
-    let log = Arc::clone(&told);
+fn reconnecting(fake: &str, user: &str) -> (TlsClient, Seen) {
+    let seen = Seen::default();
+    let log = Arc::clone(&seen);
     let builder = connector(fake, "localhost", "client").with_reconnect(true).connect().unwrap();
     let builder = builder.with_credentials(user, "");
     let client = builder
         .with_log(move |event| log.lock().unwrap().push((event.kind, event.to_string())))
         .build();
-    (client, told)
+    (client, seen)
 }
 
 /// How many requests the server had of this user.
@@ -321,18 +321,18 @@ fn came(client: &TlsClient) -> String {
 #[ignore = "it needs the fake servers"]
 fn where_nothing_was_sent_the_call_is_made_again() {
     use EventKind::{Call, Reopened, Repeated};
-    let (client, told) = reconnecting("end_after", "Rust");
+    let (client, seen) = reconnecting("end_after", "Rust");
     for _ in 0..3 {
         client.activate_key("k").unwrap();
     }
-    let told = told.lock().unwrap();
-    let kinds: Vec<_> = told.iter().map(|it| it.0).collect();
+    let seen = seen.lock().unwrap();
+    let kinds: Vec<_> = seen.iter().map(|it| it.0).collect();
     assert_eq!(kinds, [Call, Repeated, Reopened, Call, Repeated, Reopened, Call]);
     let server = format!("localhost:{}: ", port_of("end_after"));
     let wanted = format!("{server}end of input; nothing was sent: the call is made again");
-    assert_eq!(told[1].1, wanted);
-    assert_eq!(told[2].1, format!("{server}the connection was lost, and is opened again"));
-    assert!(told[3].1.starts_with(&format!("{server}activate: status 0, ")), "{}", told[3].1);
+    assert_eq!(seen[1].1, wanted);
+    assert_eq!(seen[2].1, format!("{server}the connection was lost, and is opened again"));
+    assert!(seen[3].1.starts_with(&format!("{server}activate: status 0, ")), "{}", seen[3].1);
 }
 
 #[test]
@@ -349,9 +349,9 @@ fn what_changes_nothing_is_made_again() {
     assert!(matches!(client.activate_key("k"), Err(Error::ResponseReadError(_))));
     assert!(client.is_open());
     assert_eq!(came(&client), "2");
-    let (client, told) = reconnecting("end", "Rust");
+    let (client, seen) = reconnecting("end", "Rust");
     assert!(matches!(client.query(), Err(Error::ResponseReadError(_))));
-    assert_eq!(told.lock().unwrap().len(), 3);
+    assert_eq!(seen.lock().unwrap().len(), 3);
 }
 
 #[test]

@@ -32,3 +32,9 @@ verdict 'what is skipped for want of time fails nothing'
 says 'and is said to be' '^skipped shell: .* no time is left$'
 copy/tools/check_clients.sh --built "$built" --client shell --topic versions --least shell=4 >"$said" 2>&1
 verdict 'with nothing broken they pass'
+for words in '--seconds x' '--least shell' '--seconds' '--frob'; do
+    # shellcheck disable=SC2086 # several words
+    "$top/tools/check_clients.sh" $words >"$said" 2>&1
+    (($? == 2)) && grep -q '^usage: ' "$said"
+    verdict "words that are none: $words"
+done

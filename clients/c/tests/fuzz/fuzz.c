@@ -89,39 +89,39 @@ static blob load(const char *folder, const char *name, size_t stem, const char *
 }
 
 /* The line of a blob that begins at `from`, and where the one after it begins. */
-static blob line_of(blob it, size_t *from) {
+static blob line_of(blob into, size_t *from) {
     size_t start = *from, end = start;
-    while (end < it.length && it.bytes[end] != '\n')
+    while (end < into.length && into.bytes[end] != '\n')
         end++;
-    *from = end < it.length ? end + 1 : end;
-    return copy_of(it.bytes + start, end - start);
+    *from = end < into.length ? end + 1 : end;
+    return copy_of(into.bytes + start, end - start);
 }
 
 static asked operation_in(blob file) {
     size_t at = 0;
-    asked it = {.any = true};
+    asked call = {.any = true};
     for (int i = 0; i < 3; i++)
-        it.parts[i] = line_of(file, &at);
-    it.parts[3] = copy_of(NULL, 0);
+        call.parts[i] = line_of(file, &at);
+    call.parts[3] = copy_of(NULL, 0);
     free(file.bytes);
-    return it;
+    return call;
 }
 
-static void let_go(asked it) {
-    for (int i = 0; i < (it.any ? PARTS : 1); i++)
-        free(it.parts[i].bytes);
+static void let_go(asked call) {
+    for (int i = 0; i < (call.any ? PARTS : 1); i++)
+        free(call.parts[i].bytes);
 }
 
 static void load_all(const char *folder) {
     DIR *entries = opendir(folder);
     if (!entries) exit(9);
-    for (struct dirent *it = readdir(entries); it && files < MOST_FILES; it = readdir(entries)) {
-        const char *end = strrchr(it->d_name, '.');
+    for (struct dirent *entry = readdir(entries); entry && files < MOST_FILES; entry = readdir(entries)) {
+        const char *end = strrchr(entry->d_name, '.');
         if (!end || strcmp(end, ".call") != 0) continue;
-        size_t stem = (size_t)(end - it->d_name);
-        calls[files] = load(folder, it->d_name, stem, ".call");
-        responses[files] = load(folder, it->d_name, stem, ".response");
-        operations[files] = operation_in(load(folder, it->d_name, stem, ".operation"));
+        size_t stem = (size_t)(end - entry->d_name);
+        calls[files] = load(folder, entry->d_name, stem, ".call");
+        responses[files] = load(folder, entry->d_name, stem, ".response");
+        operations[files] = operation_in(load(folder, entry->d_name, stem, ".operation"));
         files++;
     }
     closedir(entries);
@@ -139,68 +139,68 @@ static void set_number(uint8_t *at, uint32_t number) {
 
 /* Changes of a message: each has room for 300 bytes more. */
 
-static void turn_a_bit(blob *it) {
-    if (it->length) it->bytes[below(it->length)] ^= (uint8_t)(1 << below(8));
+static void turn_a_bit(blob *into) {
+    if (into->length) into->bytes[below(into->length)] ^= (uint8_t)(1 << below(8));
 }
 
-static void set_a_byte(blob *it) {
-    if (it->length) it->bytes[below(it->length)] = (uint8_t)any();
+static void set_a_byte(blob *into) {
+    if (into->length) into->bytes[below(into->length)] = (uint8_t)any();
 }
 
-static void cut(blob *it) {
-    it->length = below(it->length + 1);
+static void cut(blob *into) {
+    into->length = below(into->length + 1);
 }
 
-static void insert(blob *it) {
-    size_t at = below(it->length + 1), more = 1 + below(64);
-    memmove(it->bytes + at + more, it->bytes + at, it->length - at);
+static void insert(blob *into) {
+    size_t at = below(into->length + 1), more = 1 + below(64);
+    memmove(into->bytes + at + more, into->bytes + at, into->length - at);
     for (size_t i = 0; i < more; i++)
-        it->bytes[at + i] = below(3) ? (uint8_t)any() : 0;
-    it->length += more;
+        into->bytes[at + i] = below(3) ? (uint8_t)any() : 0;
+    into->length += more;
 }
 
-static void take_out(blob *it) {
-    if (!it->length) return;
-    size_t at = below(it->length), less = 1 + below(64);
-    if (less > it->length - at) less = it->length - at;
-    memmove(it->bytes + at, it->bytes + at + less, it->length - at - less);
-    it->length -= less;
+static void take_out(blob *into) {
+    if (!into->length) return;
+    size_t at = below(into->length), less = 1 + below(64);
+    if (less > into->length - at) less = into->length - at;
+    memmove(into->bytes + at, into->bytes + at + less, into->length - at - less);
+    into->length -= less;
 }
 
-static void set_a_length(blob *it) {
-    if (it->length < 8) return;
+static void set_a_length(blob *into) {
+    if (into->length < 8) return;
     uint32_t odd = below(2) ? UINT32_MAX - (uint32_t)below(16) : (uint32_t)any();
-    set_number(it->bytes + below(it->length / 8) * 8 + 4, below(2) ? (uint32_t)below(64) : odd);
+    set_number(into->bytes + below(into->length / 8) * 8 + 4, below(2) ? (uint32_t)below(64) : odd);
 }
 
-static void set_a_type(blob *it) {
-    if (it->length >= 8) it->bytes[below(it->length / 8) * 8 + 3] = (uint8_t)(1 + below(11));
+static void set_a_type(blob *into) {
+    if (into->length >= 8) into->bytes[below(into->length / 8) * 8 + 3] = (uint8_t)(1 + below(11));
 }
 
-static void set_a_tag(blob *it) {
+static void set_a_tag(blob *into) {
     static const uint8_t tags[] = {0x08, 0x0A, 0x0B, 0x0D, 0x0F, 0x28, 0x2A, 0x40, 0x42, 0x43,
                                    0x45, 0x57, 0x5C, 0x64, 0x66, 0x6D, 0x6F, 0x7A, 0x7B, 0x7C,
                                    0x7D, 0x7E, 0x7F, 0x92, 0x93, 0x94, 0x9D, 0xC2, 0xC3};
-    if (it->length >= 8) it->bytes[below(it->length / 8) * 8 + 2] = tags[below(sizeof tags)];
+    if (into->length >= 8) into->bytes[below(into->length / 8) * 8 + 2] = tags[below(sizeof tags)];
 }
 
-static void copy_a_word(blob *it) {
-    if (it->length < 16) return;
-    size_t from = below(it->length / 8) * 8, to = below(it->length / 8) * 8;
-    memmove(it->bytes + to, it->bytes + from, 8);
+static void copy_a_word(blob *into) {
+    if (into->length < 16) return;
+    size_t from = below(into->length / 8) * 8, to = below(into->length / 8) * 8;
+    memmove(into->bytes + to, into->bytes + from, 8);
 }
 
-static void take_from_another(blob *it) {
+static void take_from_another(blob *into) {
     blob other = responses[below(files)];
-    if (!other.length || !it->length) return;
-    size_t from = below(other.length), to = below(it->length), count = 1 + below(200);
+    if (!other.length || !into->length) return;
+    size_t from = below(other.length), to = below(into->length), count = 1 + below(200);
     if (count > other.length - from) count = other.length - from;
-    if (count > it->length - to) count = it->length - to;
-    memcpy(it->bytes + to, other.bytes + from, count);
+    if (count > into->length - to) count = into->length - to;
+    memcpy(into->bytes + to, other.bytes + from, count);
 }
 
-static void set_the_length(blob *it) {
-    if (it->length >= 8) set_number(it->bytes + 4, (uint32_t)it->length - 8);
+static void set_the_length(blob *into) {
+    if (into->length >= 8) set_number(into->bytes + 4, (uint32_t)into->length - 8);
 }
 
 static void (*const changes[])(blob *) = {
@@ -211,23 +211,23 @@ static void (*const changes[])(blob *) = {
 
 /* A mutation, by up to so many changes. */
 static blob changed(blob from, size_t most) {
-    blob it = {malloc(from.length + 64 * most + 1), from.length};
-    if (!it.bytes) exit(9);
-    memcpy(it.bytes, from.bytes, from.length);
+    blob into = {malloc(from.length + 64 * most + 1), from.length};
+    if (!into.bytes) exit(9);
+    memcpy(into.bytes, from.bytes, from.length);
     for (size_t left = 1 + below(most); left; left--)
-        changes[below(sizeof changes / sizeof *changes)](&it);
-    blob exact = copy_of(it.bytes, it.length);
-    free(it.bytes);
+        changes[below(sizeof changes / sizeof *changes)](&into);
+    blob exact = copy_of(into.bytes, into.length);
+    free(into.bytes);
     return exact;
 }
 
 static blob random_bytes(size_t most) {
     size_t length = below(most);
-    blob it = {malloc(length ? length : 1), length};
-    if (!it.bytes) exit(9);
-    for (size_t i = 0; i < it.length; i++)
-        it.bytes[i] = (uint8_t)any();
-    return it;
+    blob into = {malloc(length ? length : 1), length};
+    if (!into.bytes) exit(9);
+    for (size_t i = 0; i < into.length; i++)
+        into.bytes[i] = (uint8_t)any();
+    return into;
 }
 
 static blob a_response(size_t file) {
@@ -278,12 +278,12 @@ static blob words(void) {
 /* A call with a very long word. */
 static blob long_call(void) {
     size_t length = 7 + below(200000);
-    blob it = {malloc(length), length};
-    if (!it.bytes) exit(9);
-    memcpy(it.bytes, "sign a ", 7);
+    blob into = {malloc(length), length};
+    if (!into.bytes) exit(9);
+    memcpy(into.bytes, "sign a ", 7);
     for (size_t i = 7; i < length; i++)
-        it.bytes[i] = (uint8_t) "0123456789ABCDEFabcdef"[below(22)];
-    return it;
+        into.bytes[i] = (uint8_t) "0123456789ABCDEFabcdef"[below(22)];
+    return into;
 }
 
 static blob a_call(size_t file) {
@@ -362,44 +362,44 @@ static bool is_sign(uint8_t byte) {
 }
 
 /* A token is put in, at a place where another begins, or takes the place of one or of some. */
-static void set_a_token(blob *it) {
-    size_t at = below(it->length + 1), end, more = 0;
-    while (at < it->length && !is_sign(it->bytes[at]))
+static void set_a_token(blob *into) {
+    size_t at = below(into->length + 1), end, more = 0;
+    while (at < into->length && !is_sign(into->bytes[at]))
         at++;
-    for (end = at; below(3) && end < it->length; end++)
-        while (end + 1 < it->length && !is_sign(it->bytes[end]))
+    for (end = at; below(3) && end < into->length; end++)
+        while (end + 1 < into->length && !is_sign(into->bytes[end]))
             end++;
     const char *token = below(6) ? tokens[below(sizeof tokens / sizeof *tokens)] : "";
     more = strlen(token);
-    memmove(it->bytes + at + more, it->bytes + end, it->length - end);
-    memcpy(it->bytes + at, token, more);
-    it->length += more - (end - at);
+    memmove(into->bytes + at + more, into->bytes + end, into->length - end);
+    memcpy(into->bytes + at, token, more);
+    into->length += more - (end - at);
 }
 
 /* A part is doubled: of many levels, then. */
-static void double_a_part(blob *it) {
-    if (!it->length) return;
-    size_t at = below(it->length), count = 1 + below(60);
-    if (count > it->length - at) count = it->length - at;
-    memmove(it->bytes + at + count, it->bytes + at, it->length - at);
-    it->length += count;
+static void double_a_part(blob *into) {
+    if (!into->length) return;
+    size_t at = below(into->length), count = 1 + below(60);
+    if (count > into->length - at) count = into->length - at;
+    memmove(into->bytes + at + count, into->bytes + at, into->length - at);
+    into->length += count;
 }
 
 static blob changed_json(blob from) {
     enum { MOST = 6 };
-    blob it = {malloc(from.length + 64 * MOST + 1), from.length};
-    if (!it.bytes) exit(9);
-    memcpy(it.bytes, from.bytes, from.length);
+    blob into = {malloc(from.length + 64 * MOST + 1), from.length};
+    if (!into.bytes) exit(9);
+    memcpy(into.bytes, from.bytes, from.length);
     for (size_t left = 1 + below(MOST); left; left--) {
         if (below(4))
-            set_a_token(&it);
+            set_a_token(&into);
         else if (below(2))
-            double_a_part(&it);
+            double_a_part(&into);
         else
-            changes[below(5)](&it);
+            changes[below(5)](&into);
     }
-    blob exact = copy_of(it.bytes, it.length);
-    free(it.bytes);
+    blob exact = copy_of(into.bytes, into.length);
+    free(into.bytes);
     return exact;
 }
 
@@ -408,14 +408,14 @@ static blob nested_json(void) {
     static const char in[] = "{\"tag\":\"RequestPayload\",\"value\":[", out[] = "]}";
     size_t levels = below(4) ? below(80) : below(3000),
            left = below(3) ? levels : below(levels + 1);
-    blob it = {malloc((sizeof in + sizeof out) * levels + 1), 0};
-    if (!it.bytes) exit(9);
-    for (size_t i = 0; i < levels; i++, it.length += sizeof in - 1)
-        memcpy(it.bytes + it.length, in, sizeof in - 1);
-    for (size_t i = 0; i < left; i++, it.length += sizeof out - 1)
-        memcpy(it.bytes + it.length, out, sizeof out - 1);
-    blob exact = copy_of(it.bytes, it.length);
-    free(it.bytes);
+    blob into = {malloc((sizeof in + sizeof out) * levels + 1), 0};
+    if (!into.bytes) exit(9);
+    for (size_t i = 0; i < levels; i++, into.length += sizeof in - 1)
+        memcpy(into.bytes + into.length, in, sizeof in - 1);
+    for (size_t i = 0; i < left; i++, into.length += sizeof out - 1)
+        memcpy(into.bytes + into.length, out, sizeof out - 1);
+    blob exact = copy_of(into.bytes, into.length);
+    free(into.bytes);
     return exact;
 }
 
@@ -454,12 +454,12 @@ static asked any_operation(size_t file) {
     static const char *const versions[] = {"1.0", "1.1", "1.2",  "1.3", "2.0",
                                            "1",   "",    "1.2 ", "01.2"};
     const blob *own = operations[file].parts;
-    asked it = {.any = true};
-    it.parts[0] = a_text(names, sizeof names / sizeof *names, own[0]);
-    it.parts[1] = a_text(versions, sizeof versions / sizeof *versions, own[1]);
-    it.parts[2] = a_payload(own[2]);
-    it.parts[3] = an_id();
-    return it;
+    asked call = {.any = true};
+    call.parts[0] = a_text(names, sizeof names / sizeof *names, own[0]);
+    call.parts[1] = a_text(versions, sizeof versions / sizeof *versions, own[1]);
+    call.parts[2] = a_payload(own[2]);
+    call.parts[3] = an_id();
+    return call;
 }
 
 static size_t a_room(void) {
@@ -481,10 +481,10 @@ static void check_written(const uint8_t *into, size_t room, int64_t length) {
         if (into[i] != UNTOUCHED) found("a byte is written past what is told");
 }
 
-static int64_t request_of(asked it, bool has, blob user, blob password, uint8_t *into,
+static int64_t request_of(asked call, bool has, blob user, blob password, uint8_t *into,
                           size_t room) {
-    const blob *part = it.parts;
-    if (!it.any)
+    const blob *part = call.parts;
+    if (!call.any)
         return kmip_request(part->bytes, part->length, has, user.bytes, user.length, password.bytes,
                             password.length, into, room);
     return kmip_operation_request(part[0].bytes, part[0].length, part[1].bytes, part[1].length,
@@ -493,9 +493,9 @@ static int64_t request_of(asked it, bool has, blob user, blob password, uint8_t 
                                   room);
 }
 
-static int32_t answer_of(asked it, blob response, uint8_t *into, size_t room, int64_t *length) {
-    const blob *part = it.parts;
-    if (!it.any)
+static int32_t answer_of(asked call, blob response, uint8_t *into, size_t room, int64_t *length) {
+    const blob *part = call.parts;
+    if (!call.any)
         return kmip_answer(part->bytes, part->length, response.bytes, response.length, into, room,
                            length);
     return kmip_operation_answer(part[0].bytes, part[0].length, part[1].bytes, part[1].length,

@@ -37,15 +37,15 @@ script() { # TEXT
         ended() { until_true is_gone "$1"; }
         has_bytes() { read -r -t 0 -u "$KMIP_IN"; }
         arrived() { until_true has_bytes; }
-        told() {
+        asks_control() {
             local to is=no
             exec {to}<>"/dev/tcp/127.0.0.1/$control" || return
             echo "$1 $held" >&"$to" && read -r -t 90 is <&"$to"
             exec {to}>&-
             [[ $is == yes ]]
         }
-        calling() { told arrived && CALLING=$(pgrep -f "^[^ ]*kmip_call .* $held( |$)"); }
-        release() { told release; }
+        calling() { asks_control arrived && CALLING=$(pgrep -f "^[^ ]*kmip_call .* $held( |$)"); }
+        release() { asks_control release; }
         late() { release; arrived; }
         '"$1" >"$said" 2>&1 </dev/null
 }

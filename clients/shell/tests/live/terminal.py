@@ -37,7 +37,7 @@ def main() -> int:
     def enter(line):
         os.write(terminal, line.encode() + b'\n')
 
-    def tell(what):
+    def ask_control(what):
         with socket.create_connection(('127.0.0.1', int(control)), 100) as wire, wire.makefile('rw') as lines:
             print(what, held, file=lines, flush=True)
             if lines.readline() != 'yes\n':
@@ -53,10 +53,10 @@ def main() -> int:
     wait_for('ready> ')
     held = 'held%d' % os.getpid()
     enter('kmip sign %s 4141' % held)
-    tell('arrived')
+    ask_control('arrived')
     os.write(terminal, b'\3')
     wait_for('ready> ')
-    tell('release')
+    ask_control('release')
     enter('kmip sign other 4242; echo sta""tus $?')
     answer = wait_for('status ')
     status = wait_for('\n').strip()
