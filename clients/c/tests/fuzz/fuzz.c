@@ -115,7 +115,8 @@ static void let_go(asked call) {
 static void load_all(const char *folder) {
     DIR *entries = opendir(folder);
     if (!entries) exit(9);
-    for (struct dirent *entry = readdir(entries); entry && files < MOST_FILES; entry = readdir(entries)) {
+    for (struct dirent *entry = readdir(entries); entry && files < MOST_FILES;
+         entry = readdir(entries)) {
         const char *end = strrchr(entry->d_name, '.');
         if (!end || strcmp(end, ".call") != 0) continue;
         size_t stem = (size_t)(end - entry->d_name);
@@ -515,7 +516,8 @@ static void check_request(asked call) {
     int64_t length = request_of(call, has, user, password, into, room);
     check_written(into, room, length);
     if (length < 0) {
-        if (length != KMIP_LENGTH_GRAMMAR && length != KMIP_LENGTH_NO_FORM) found("another code of a request");
+        if (length != KMIP_LENGTH_GRAMMAR && length != KMIP_LENGTH_NO_FORM)
+            found("another code of a request");
     } else {
         uint8_t *again = to_write((size_t)length);
         if (request_of(call, has, user, password, again, (size_t)length) != length)
@@ -536,8 +538,9 @@ static void check_refusal(asked call) {
     const blob *part = call.parts;
     size_t room = a_room();
     uint8_t *into = to_write(room);
-    int64_t length = kmip_operation_refusal(part[0].bytes, part[0].length, part[1].bytes,
-                                            part[1].length, part[2].bytes, part[2].length, into, room);
+    int64_t length =
+        kmip_operation_refusal(part[0].bytes, part[0].length, part[1].bytes, part[1].length,
+                               part[2].bytes, part[2].length, into, room);
     check_written(into, room, length);
     bool is_none = request_of(call, false, part[0], part[0], into, 0) == KMIP_LENGTH_GRAMMAR;
     if (is_none ? length <= 0 : length != KMIP_LENGTH_ABSENT) found("a refusal of another call");
@@ -551,7 +554,8 @@ static void check_contents_len(blob response) {
         head = changed((blob){response.bytes, 8}, 1);
     }
     uint32_t limit = below(3) ? (uint32_t)(below(2) ? below(70000) : any()) : 0;
-    int64_t length = kmip_contents_len(head.bytes, head.length, limit), wanted = KMIP_LENGTH_GRAMMAR;
+    int64_t length = kmip_contents_len(head.bytes, head.length, limit),
+            wanted = KMIP_LENGTH_GRAMMAR;
     if (head.length == 8) {
         wanted = number_at(head.bytes + 4);
         if (limit && wanted + 8 > limit) wanted = KMIP_LENGTH_LIMIT;

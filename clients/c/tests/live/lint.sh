@@ -15,4 +15,4 @@ linter_says 'cppcheck finds nothing' cppcheck ' 2\.10' cppcheck cppcheck -q --st
 linter_says 'clang-tidy finds nothing' clang-tidy ' 14\.' clang-tidy \
     clang-tidy --quiet --warnings-as-errors='*' ./*.c -- -std=c11
 linter_says 'the layout is that of .clang-format' clang-format ' 14\.' clang-format \
-    clang-format --dry-run -Werror ./*.c ./*.h tests/*.c tests/*.h
+    clang-format --style=file:.clang-format --dry-run -Werror ./*.c ./*.h tests/*.c tests/*.h tests/*/*.c ../web/tests/*.c
