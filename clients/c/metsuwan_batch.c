@@ -53,19 +53,15 @@ typedef struct {
     size_t whole_len, length;
 } part;
 
-static uint32_t number_at(const uint8_t *bytes) {
-    return (uint32_t)bytes[0] << 24 | (uint32_t)bytes[1] << 16 | (uint32_t)bytes[2] << 8 | bytes[3];
-}
-
 static uint64_t id_at(const uint8_t *bytes) {
-    return (uint64_t)number_at(bytes) << 32 | number_at(bytes + 4);
+    return (uint64_t)kmip_number_at(bytes) << 32 | kmip_number_at(bytes + 4);
 }
 
 /* The item of a structure that begins here, of so many bytes to the structure's end; or what is
    wrong with it. */
 static const char *read_part(const uint8_t *at, size_t left, part *into) {
     if (left < HEAD) return "an item without its head";
-    *into = (part){number_at(at) >> 8, at[3], at, at + HEAD, 0, number_at(at + 4)};
+    *into = (part){kmip_number_at(at) >> 8, at[3], at, at + HEAD, 0, kmip_number_at(at + 4)};
     size_t pad = into->type == STRUCTURE ? 0 : (8 - into->length % 8) % 8;
     if (into->length > left - HEAD || pad > left - HEAD - into->length)
         return "an item without its end";
@@ -120,31 +116,24 @@ static void put(writer *out, const uint8_t *bytes, size_t count) {
 }
 
 static void put_head(writer *out, uint32_t tag, uint8_t type, uint32_t length) {
-    const uint32_t words[] = {tag << 8 | type, length};
     uint8_t head[HEAD];
-    for (size_t i = 0; i < HEAD; i++)
-        head[i] = (uint8_t)(words[i / 4] >> (24 - 8 * (i % 4)));
+    kmip_number_into(head, tag << 8 | type);
+    kmip_number_into(head + 4, length);
     put(out, head, HEAD);
 }
 
 /* An item of four bytes: an integer or an enumeration. */
 static void put_number(writer *out, uint32_t tag, uint8_t type, uint32_t number) {
-    const uint8_t value[] = {(uint8_t)(number >> 24),
-                             (uint8_t)(number >> 16),
-                             (uint8_t)(number >> 8),
-                             (uint8_t)number,
-                             0,
-                             0,
-                             0,
-                             0};
+    uint8_t value[8] = {0};
+    kmip_number_into(value, number);
     put_head(out, tag, type, 4);
     put(out, value, sizeof value);
 }
 
 static void put_id(writer *out, uint64_t id) {
     uint8_t value[8];
-    for (size_t i = 0; i < sizeof value; i++)
-        value[i] = (uint8_t)(id >> (56 - 8 * i));
+    kmip_number_into(value, (uint32_t)(id >> 32));
+    kmip_number_into(value + 4, (uint32_t)id);
     put_head(out, ITEM_ID, BYTES, sizeof value);
     put(out, value, sizeof value);
 }
@@ -156,9 +145,7 @@ static size_t put_structure(writer *out, uint32_t tag) {
 }
 
 static void end_structure(writer *out, size_t from) {
-    size_t length = out->length - from;
-    for (size_t i = 0; !out->failed && i < 4; i++)
-        out->room.bytes[from - 4 + i] = (uint8_t)(length >> (24 - 8 * i));
+    if (!out->failed) kmip_number_into(out->room.bytes + from - 4, (uint32_t)(out->length - from));
 }
 
 /* The header and the batch item of a request that the library made. */
@@ -296,7 +283,7 @@ static size_t place_of(const kmip_batch *batch, const part *batch_item) {
 static bool has_failed(const part *batch_item) {
     part status;
     return find_part(batch_item, RESULT_STATUS, &status) && status.type == ENUMERATION &&
-           status.length == 4 && number_at(status.contents) == FAILED;
+           status.length == 4 && kmip_number_at(status.contents) == FAILED;
 }
 
 /* Whether the response is a failure of the whole message, as where a server takes no batches: one

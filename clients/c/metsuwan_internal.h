@@ -28,6 +28,16 @@ HIDDEN void kmip_room_free(kmip_room *into);
 HIDDEN char *kmip_copy_of(const char *text);
 HIDDEN void kmip_copy_free(char *text);
 
+/* A number of four bytes, as TTLV has it (KMIP 1.0, 9.1.1): read, and written. */
+static inline uint32_t kmip_number_at(const uint8_t *at) {
+    return (uint32_t)at[0] << 24 | (uint32_t)at[1] << 16 | (uint32_t)at[2] << 8 | at[3];
+}
+
+static inline void kmip_number_into(uint8_t *at, uint32_t number) {
+    for (int i = 0; i < 4; i++)
+        at[i] = (uint8_t)(number >> (24 - 8 * i));
+}
+
 /* A TLS connection, of which each use has to end by a deadline. */
 typedef struct kmip_wire kmip_wire;
 

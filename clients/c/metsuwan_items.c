@@ -86,9 +86,9 @@ static const char *item_at(const char *line, const char *path) {
 }
 
 /* The value of a hex digit; -1: it is none. */
-static int hex_digit(char made) {
+static int hex_digit(char digit) {
     static const char digits[] = "0123456789ABCDEF0123456789abcdef";
-    const char *found = made ? strchr(digits, made) : NULL;
+    const char *found = digit ? strchr(digits, digit) : NULL;
     return found ? (int)(found - digits) % 16 : -1;
 }
 

@@ -528,7 +528,7 @@ static void put_point(writer *out, const char *line, size_t curve) {
 }
 
 /* A private key in ECPrivateKey. */
-static void put_number(writer *out, const char *line, size_t curve) {
+static void put_ec_private_key(writer *out, const char *line, size_t curve) {
     writer own = {{NULL, 0}, 0, false}, parameters = {{NULL, 0}, 0, false};
     kmip_room room = {NULL, 0};
     const uint8_t *bytes = NULL;
@@ -566,7 +566,7 @@ const char *kmip_write_parts(kmip_room *into, size_t *length, const char *line,
         put_point(&out, line, curve);
     } else if (curve < CURVES) {
         label = "EC PRIVATE KEY";
-        put_number(&out, line, curve);
+        put_ec_private_key(&out, line, curve);
     }
     if (out.failed) label = NULL;
     if (!label) kmip_room_free(&out.room);
