@@ -1,4 +1,4 @@
--- The terms of the traits of items, for a payload: its canonical bytes under a tag.
+-- The words of the traits of items, said of a payload: its canonical bytes under a tag.
 use Rattle.std.specs.Prelude.{ℕ, Option}
 use Rattle.kmip_wire.specs.Room.{Room, Appends}
 use Rattle.kmip_shape.specs.Writes.{HasForm, size_of, text_of, wire_len_of}

@@ -1,6 +1,6 @@
 -- The texts of JSON by RFC 8259, with no white space: its grammar, byte for byte, and UTF-8. In the
 -- grammar bytes from 128 on, of which longer characters are made, stand for themselves; that they make
--- whole characters, and that each number is a byte, is what UTF-8 says.
+-- whole characters, and that each number is a byte, is said by UTF-8.
 use Rattle.std.specs.Prelude.{ℕ, ℤ, ◌≤◌, ◌≡◌, ◌⊎◌, List, [], ◌∷◌, ◌++◌, codes, IsUtf8}
 use Rattle.std.specs.Fmt.{signed_decimal}
 
