@@ -78,7 +78,7 @@ static const char *wrong_with(const part *structure) {
     return wrong;
 }
 
-/* Goes to the next item of a structure that is well formed, from the first where `it` has none of
+/* Goes to the next item of a structure that is well formed, from the first where `own` has none of
    its bytes; false: there is none. */
 static bool next_part(const part *structure, part *own) {
     size_t at = own->whole ? (size_t)(own->whole - structure->contents) + own->whole_len : 0;
