@@ -108,7 +108,7 @@ def compare(name, ours, plain, feed, rounds):
             sys.exit(f'{name}: the programs wrote {our_text[:80]} and {plain_text[:80]}')
         times[0].append(our_time)
         times[1].append(plain_time)
-    least, median = ([sorted(it)[at] for it in times] for at in (0, rounds // 2))
+    least, median = ([sorted(seconds)[at] for seconds in times] for at in (0, rounds // 2))
     print(f'{name}: ours {least[0]:.3f} s (median {median[0]:.3f}), plain {least[1]:.3f} s (median {median[1]:.3f}), '
           f'ratio {least[0] / least[1]:.2f} (median {median[0] / median[1]:.2f}), aim {AIMS[name]:.2f}')
 

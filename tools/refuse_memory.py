@@ -55,7 +55,7 @@ def session_failures(run):
         status, output, _ = run(number)
         if status != 0 and "sent otherwise" in output:
             failures += 1
-            print(f"a session: request {number} refused: {told}")
+            print(f"a session: request {number} refused: {output}")
         ended += status == 0
     print(f"a session: {asked} requests; refused in turn, {ended} came to the end of the test with a first part sent, "
           f"{asked - ended - failures} were of the test itself")

@@ -33,8 +33,8 @@ from registry import (ADD_ATTRIBUTE, CREATE_KEY_PAIR, DELETE_ATTRIBUTE, FAKES, G
 from ttlv import (FAILED, PENDING, SUCCESS, UNDONE, batch_item, date, enumeration, header, id_of, identified, identifier, item,
                   items_of, nested, octets, operation_of, response, structure, text, value_of)
 
-for it in 'objects', 'curves':      # fakes of their own
-    importlib.import_module(it)
+for name in 'objects', 'curves':      # fakes of their own
+    importlib.import_module(name)
 
 # The server's certificate is that of certs.sh with this name; what it answers is good.
 CERTIFICATES = ('expired_server', 'wrong_host', 'cn_only', 'wildcard', 'of_between', 'address', 'other/server')
@@ -101,13 +101,13 @@ def held(wire, request):
     asked = value_of(request, '420094', 7) or b''
     if not asked.startswith(b'held'):
         return good(wire, request)
-    it = HELD[asked.decode()]
-    it.arrived.set()
-    it.released.wait()
+    request_held = HELD[asked.decode()]
+    request_held.arrived.set()
+    request_held.released.wait()
     try:
         wire.sendall(answer_of(request))
     finally:
-        it.answered.set()
+        request_held.answered.set()
 
 
 @plain
@@ -117,13 +117,13 @@ def control(listener):
         with wire, wire.makefile('rw') as lines:
             for line in lines:
                 what, name = line.split()
-                it = HELD[name]
+                request_held = HELD[name]
                 if what == 'release':
-                    it.released.set()
+                    request_held.released.set()
                     # A call that was given up before its request came is none to wait for.
-                    done = it.arrived.wait(5) and it.answered.wait(60)
+                    done = request_held.arrived.wait(5) and request_held.answered.wait(60)
                 else:
-                    done = it.arrived.wait(60)
+                    done = request_held.arrived.wait(60)
                 print('yes' if done else 'no', file=lines, flush=True)
     serve_each(listener, serve)
 
@@ -189,7 +189,7 @@ def batches(wire, request):
         made[:0] = [batch_answer(body)] * {b'twice': 2, b'left out': 0}.get(asked, 1)
         if asked == b'unknown':
             name = value_of(body, '420093', 8)
-            made.append(batch_answer(body.replace(octets(0x420093, name), octets(0x420093, bytes(it ^ 255 for it in name)))))
+            made.append(batch_answer(body.replace(octets(0x420093, name), octets(0x420093, bytes(byte ^ 255 for byte in name)))))
         if asked == b'failing' and value_of(request, '42000E', 5) == b'\0\0\0\2':
             break
     wire.sendall(structure(0x42007B, header(count=len(made)), *made))

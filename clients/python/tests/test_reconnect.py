@@ -21,7 +21,7 @@ class Reconnect(unittest.TestCase):
             with self.assertLogs('metsuwan', 'WARNING') as log:
                 kmip.activate('k')
                 kmip.activate('k')
-            self.assertEqual(len([it for it in log.output if 'opened again' in it]), 2)
+            self.assertEqual(len([line for line in log.output if 'opened again' in line]), 2)
         with client_of('end_after') as kmip:
             kmip.activate('k')
             with self.assertRaises(RequestWriteError):

@@ -31,8 +31,8 @@ class Records(unittest.TestCase):
         with client_of(fake, record=lines.append, **settings) as kmip:
             for call in calls:
                 call(kmip)
-        self.assertTrue(all(it.endswith('\n') and it.count('\n') == 1 for it in lines))
-        return [it[:-1].split(' ') for it in lines]
+        self.assertTrue(all(line.endswith('\n') and line.count('\n') == 1 for line in lines))
+        return [line[:-1].split(' ') for line in lines]
 
     def is_replayed(self, words: List[str]) -> None:
         """A client of this request, over this response, is answered."""
@@ -63,7 +63,7 @@ class Records(unittest.TestCase):
                            fake='batches')
         self.assertEqual(line[0], 'message')
         # The fake answers the last item first.
-        asked, answered = (re.findall('4200930800000008([0-9A-F]{16})', it) for it in line[1:])
+        asked, answered = (re.findall('4200930800000008([0-9A-F]{16})', word) for word in line[1:])
         self.assertEqual((len(set(asked)), asked), (2, answered[::-1]))
 
     def test_it_has_no_credential(self) -> None:

@@ -118,7 +118,7 @@ def about_keys():
     yield (Operation.CREATE_KEY_PAIR, [payloads.CreateKeyPairRequestPayload(common, *both)],
            [payloads.CreateKeyPairResponsePayload('1', '2', *both)])
     yield (Operation.REGISTER,
-           [payloads.RegisterRequestPayload(it, TEMPLATE, OBJECTS[it]) for it in OBJECTS],
+           [payloads.RegisterRequestPayload(kind, TEMPLATE, OBJECTS[kind]) for kind in OBJECTS],
            [payloads.RegisterResponsePayload('4', TEMPLATE)])
     yield (Operation.REKEY, [payloads.RekeyRequestPayload('4', 3600, TEMPLATE)],
            [payloads.RekeyResponsePayload('5', TEMPLATE)])
@@ -134,7 +134,7 @@ def about_keys():
     yield (Operation.GET, [payloads.GetRequestPayload(
         '4', enums.KeyFormatType.RAW,
         enums.KeyCompressionType.EC_PUBLIC_KEY_TYPE_X9_62_HYBRID, wrapping)],
-        [payloads.GetResponsePayload(it, '4', OBJECTS[it]) for it in OBJECTS])
+        [payloads.GetResponsePayload(kind, '4', OBJECTS[kind]) for kind in OBJECTS])
 
 
 def about_attributes():
@@ -153,7 +153,7 @@ def about_attributes():
            [payloads.DeleteAttributeResponsePayload('4', ATTRIBUTES[1])])
     yield (Operation.CHECK, [payloads.CheckRequestPayload('4', (1 << 62) + 1, 12, 60)],
            [payloads.CheckResponsePayload('4', -1, 12, 0)])
-    yield (Operation.OBTAIN_LEASE, *[[it] for it in (
+    yield (Operation.OBTAIN_LEASE, *[[payload] for payload in (
         payloads.ObtainLeaseRequestPayload('4'),
         payloads.ObtainLeaseResponsePayload('4', (1 << 32) - 1, DATE))])
     yield (Operation.GET_USAGE_ALLOCATION, [payloads.GetUsageAllocationRequestPayload('4', 1000)],
@@ -191,8 +191,8 @@ def about_data():
            [payloads.SignResponsePayload('4', data)])
     yield (Operation.SIGNATURE_VERIFY, [payloads.SignatureVerifyRequestPayload(
         '4', PARAMETERS, data, None, data, data, True, False)],
-        [payloads.SignatureVerifyResponsePayload('4', it, data, data)
-         for it in enums.ValidityIndicator])
+        [payloads.SignatureVerifyResponsePayload('4', validity, data, data)
+         for validity in enums.ValidityIndicator])
     identifier = attributes.UniqueIdentifier('4')
     yield (Operation.MAC, [payloads.MACRequestPayload(identifier, PARAMETERS, objects.Data(data))],
            [payloads.MACResponsePayload(identifier, objects.MACData(data))])
@@ -257,8 +257,8 @@ def messages():
     groups = (about_keys(), about_attributes(), about_states(), about_data())
     for operation, requests, responses in itertools.chain.from_iterable(groups):
         for version in VERSIONS:
-            made = [request_of(version, operation, it) for it in requests]
-            made += [response_of(version, operation, it) for it in responses]
+            made = [request_of(version, operation, payload) for payload in requests]
+            made += [response_of(version, operation, payload) for payload in responses]
             yield '%s, %s' % (operation.name, version.name), made
     yield 'failures', list(failures(KMIPVersion.KMIP_1_2))
 

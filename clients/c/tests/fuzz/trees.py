@@ -69,10 +69,10 @@ def no_constant(text: str) -> Any:
     raise ValueError(text)
 
 
-def is_reason(it: Any) -> bool:
+def is_reason(reason: Any) -> bool:
     """Whether it is a number, and the name of it where KMIP has one."""
-    return isinstance(it, dict) and list(it) in (['number'], ['name', 'number']) \
-        and isinstance(it['number'], int) and isinstance(it.get('name', ''), str)
+    return isinstance(reason, dict) and list(reason) in (['number'], ['name', 'number']) \
+        and isinstance(reason['number'], int) and isinstance(reason.get('name', ''), str)
 
 
 def check_line(status: int, line: bytes) -> Any:
@@ -81,21 +81,21 @@ def check_line(status: int, line: bytes) -> Any:
         text = line.decode('utf-8')
         if not text.endswith('\n') or text.count('\n') != 1:
             raise ValueError('it is not one line')
-        it = json.loads(text, object_pairs_hook=once, parse_constant=no_constant)
+        line_object = json.loads(text, object_pairs_hook=once, parse_constant=no_constant)
         if status == 0:
-            if list(it) != ['answer']:
+            if list(line_object) != ['answer']:
                 raise ValueError('its members are others')
-        elif list(it)[:2] != ['error', 'text'] or not set(it) <= MEMBERS:
+        elif list(line_object)[:2] != ['error', 'text'] or not set(line_object) <= MEMBERS:
             raise ValueError('its members are others')
-        elif it['error'] not in (REFUSALS if status == 1 else LOSSES):
+        elif line_object['error'] not in (REFUSALS if status == 1 else LOSSES):
             raise ValueError('its error is of another status')
-        elif not isinstance(it['text'], str):
+        elif not isinstance(line_object['text'], str):
             raise ValueError('its text is none')
-        elif 'reason' in it and not is_reason(it['reason']):
+        elif 'reason' in line_object and not is_reason(line_object['reason']):
             raise ValueError('its reason is none')
     except ValueError as error:
         found(error, status, line[:300])
-    return it
+    return line_object
 
 
 def check_lines(path: str) -> None:
@@ -131,14 +131,14 @@ def payload_of(message: List[Item], tag: int) -> Item:
 def json_of(item: Item) -> Any:
     """An item in KMIP's JSON, with tags, numbers of enumerations and dates in hex digits."""
     tag, kind, value = item
-    it = {'tag': '0x%06X' % tag, 'type': TYPES[kind]}
+    shown = {'tag': '0x%06X' % tag, 'type': TYPES[kind]}
     if kind == 1:
-        return {**it, 'value': [json_of(part) for part in value]}
+        return {**shown, 'value': [json_of(part) for part in value]}
     if kind in (2, 10):
-        return {**it, 'value': int.from_bytes(value, 'big', signed=kind == 2)}
+        return {**shown, 'value': int.from_bytes(value, 'big', signed=kind == 2)}
     if kind in (6, 7):
-        return {**it, 'value': value[-1] == 1 if kind == 6 else value.decode()}
-    return {**it, 'value': ('' if kind == 8 else '0x') + value.hex().upper()}
+        return {**shown, 'value': value[-1] == 1 if kind == 6 else value.decode()}
+    return {**shown, 'value': ('' if kind == 8 else '0x') + value.hex().upper()}
 
 
 def places(items: List[Item]) -> Iterator[Tuple[List[Item], int]]:
@@ -150,7 +150,7 @@ def places(items: List[Item]) -> Iterator[Tuple[List[Item], int]]:
 
 def copied(item: Item) -> Item:
     tag, kind, value = item
-    return [tag, kind, [copied(it) for it in value] if isinstance(value, list) else value]
+    return [tag, kind, [copied(part) for part in value] if isinstance(value, list) else value]
 
 
 class Changes:
@@ -198,7 +198,7 @@ class Changes:
                 items[at] = [self.random.choice(TAGS), 1, [items[at]]]
 
     def changed(self, tree: List[Item]) -> List[Item]:
-        tree = [copied(it) for it in tree]
+        tree = [copied(item) for item in tree]
         for _ in range(self.random.randrange(1, 4)):
             below = [(items, at) for items, at in places(tree) if items is not tree]
             if below:
@@ -279,7 +279,7 @@ def check_payload(library: Library, asked: Operation, answer: Any, tree: List[It
 
 def sole(tag: int, items: Any) -> Optional[Item]:
     """The one item with this tag of these, where there is one."""
-    found_ones = [it for it in items if it[0] == tag] if isinstance(items, list) else []
+    found_ones = [item for item in items if item[0] == tag] if isinstance(items, list) else []
     return found_ones[0] if len(found_ones) == 1 else None
 
 
@@ -290,7 +290,7 @@ def is_of_other_item(tree: List[Item]) -> bool:
     item = sole(BATCH_ITEM, message[2])
     if item is None or count is None or count[1:] != [2, b'\0\0\0\1']:
         return False
-    tags = [it[0] for it in item[2]] if isinstance(item[2], list) else []
+    tags = [part[0] for part in item[2]] if isinstance(item[2], list) else []
     if ITEM_ID in tags:
         return sole(ITEM_ID, item[2]) != [ITEM_ID, 8, ID]
     return OPERATION in tags or sole(STATUS, item[2]) != [STATUS, 5, b'\0\0\0\1']
@@ -315,16 +315,16 @@ def try_tree(library: Library, values: Values, call: bytes, asked: Operation,
     response = written(tree)
     status, line = library.answer(call, response)
     yield 'words', status
-    it = check_line(status, line.encode('utf-8'))
+    line_object = check_line(status, line.encode('utf-8'))
     if status == 0:
-        values.check(call, response, it['answer'])
+        values.check(call, response, line_object['answer'])
     elif values.value(call, response, b'unique_identifier', False) is not None:
         found('a value of an error', call, response.hex())
     status, line = library.answer(asked, response)
     yield 'operation', status
-    it = check_line(status, line.encode('utf-8'))
+    line_object = check_line(status, line.encode('utf-8'))
     if status == 0:
-        check_payload(library, asked, it['answer'], tree)
+        check_payload(library, asked, line_object['answer'], tree)
     identified = library.answer(asked._replace(item_id=ID), response)
     yield 'identified', identified[0]
     check_line(identified[0], identified[1].encode('utf-8'))

@@ -70,7 +70,8 @@ def is_kept(kmip: Client, key: str, tag: str, algorithm: str, material: bytes) -
     by_words = kmip.get(key)
     check(by_words.tree is not None and by_words.key_material == material,
           what + ' is got by the call of words')
-    names = [it.text_at('AttributeName') for it in kmip.attributes(key) if isinstance(it, Item)]
+    items = [item for item in kmip.attributes(key) if isinstance(item, Item)]
+    names = [item.text_at('AttributeName') for item in items]
     check('Cryptographic Algorithm' in names, what + ' has its attributes by that call')
 
 
@@ -170,7 +171,7 @@ def dates(kmip: Client) -> None:
             attribute('Initial Date', last, 'DateTime'), attribute('Name', [
                 Item('NameValue', NAME),
                 Item('NameType', 'UninterpretedTextString', 'Enumeration')])])
-        return [it['value'] for it in answer['value'] if it['tag'] == 'UniqueIdentifier']
+        return [item['value'] for item in answer['value'] if item['tag'] == 'UniqueIdentifier']
 
     now = int(time.time())
     both = sorted(kmip.locate(NAME))
@@ -189,7 +190,7 @@ def certificates(kmip: Client, objects: pathlib.Path) -> None:
     check(got.certificate_value == der, 'and given back as it was')
     pathlib.Path('certificate.pem').write_text(got.pem(), encoding='ascii')
     check(kmip.locate(NAME + ', certificate') == [made], 'it is found by its name')
-    values = {it['name']: it['value'] for it in kmip.attributes(made)}
+    values = {attribute['name']: attribute['value'] for attribute in kmip.attributes(made)}
     check(values['Cryptographic Usage Mask'] == {'Integer': 0x1002}, 'it has its uses')
     again = kmip.register_certificate(got.pem())
     check(kmip.get(again).certificate_value == der, 'its PEM is registered too')
