@@ -2,10 +2,8 @@
 //!
 //! A message in a row stands in the notation of kmip_test_messages, as `REQ2(25, C4 i16)`, and in a
 //! record as `<REQ2(25, C4 i16)>`. The lines of answers were written by hand.
-use self::answers::{
-    ANSWERS, DEEPEST, IDENTIFIED_OPERATIONS, MESSAGES, OPERATIONS, TOO_DEEP,
-};
-use self::errors::{AROUND, ERRORS, GRAMMAR, RECORDS};
+use self::answers::{DEEPEST, TOO_DEEP, answers, identified_operations, messages, operations};
+use self::errors::{errors, passwords_and_failures, records, words_out_of_grammar};
 use crate::command::{Command, command_of};
 use crate::help::{grammar_json, help_text};
 use crate::last_error::LastError;
@@ -235,24 +233,52 @@ fn is_made(rt: &impl Abort, alloc: Global, row: &Row) -> Result<(), Fail> {
     is_made_of(rt, alloc, row.words, row)
 }
 
-#[test]
-fn a_call_sends_reads_records_and_answers_as_its_row_says(rt: HostRuntime) -> Result<(), Fail> {
-    for rows in [
-        ANSWERS, OPERATIONS, MESSAGES, ERRORS, RECORDS, GRAMMAR, AROUND,
-    ] {
-        for row in rows {
-            is_made(&rt, rt.alloc(), row)?;
-        }
+/// That the program does what each row says.
+fn are_made(rt: &impl Abort, alloc: Global, rows: &[Row]) -> Result<(), Fail> {
+    for row in rows {
+        is_made(rt, alloc, row)?;
     }
     Ok(())
 }
 
 #[test]
+fn an_answered_call_sends_its_request_and_writes_its_answer(rt: HostRuntime) -> Result<(), Fail> {
+    are_made(&rt, rt.alloc(), answers())
+}
+
+#[test]
+fn a_call_of_any_operation_sends_its_payload_and_writes_the_answers(rt: HostRuntime) -> Result<(), Fail> {
+    are_made(&rt, rt.alloc(), operations())
+}
+
+#[test]
 fn an_answer_has_the_id_of_its_operation(rt: HostRuntime) -> Result<(), Fail> {
-    for row in IDENTIFIED_OPERATIONS {
-        is_made(&rt, rt.alloc(), row)?;
-    }
-    Ok(())
+    are_made(&rt, rt.alloc(), identified_operations())
+}
+
+#[test]
+fn a_message_is_sent_as_it_is_written(rt: HostRuntime) -> Result<(), Fail> {
+    are_made(&rt, rt.alloc(), messages())
+}
+
+#[test]
+fn a_call_that_fails_writes_its_error(rt: HostRuntime) -> Result<(), Fail> {
+    are_made(&rt, rt.alloc(), errors())
+}
+
+#[test]
+fn a_call_with_a_record_is_recorded(rt: HostRuntime) -> Result<(), Fail> {
+    are_made(&rt, rt.alloc(), records())
+}
+
+#[test]
+fn words_out_of_the_grammar_send_nothing(rt: HostRuntime) -> Result<(), Fail> {
+    are_made(&rt, rt.alloc(), words_out_of_grammar())
+}
+
+#[test]
+fn passwords_and_failing_streams_have_their_effects(rt: HostRuntime) -> Result<(), Fail> {
+    are_made(&rt, rt.alloc(), passwords_and_failures())
 }
 
 /// Adds a part so many times.

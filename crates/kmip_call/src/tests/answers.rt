@@ -2,7 +2,7 @@
 use super::{ANSWERED, Failing, NONE, NOT_READ, NOT_RECORDED, NOT_SENT, RNG_BY_ALICE, Row};
 
 /// Calls that are answered.
-pub const ANSWERS: &[Row] = &[
+const ANSWERS: &[Row] = &[
     ANSWERED,
     Row {
         shows: "no byte past the message is read",
@@ -118,6 +118,11 @@ pub const ANSWERS: &[Row] = &[
     },
 ];
 
+/// The calls that are answered.
+pub fn answers() -> &'static [Row] {
+    ANSWERS
+}
+
 /// A payload of Encrypt in JSON, and its request by KMIP 1.2 (4.29).
 const PAYLOAD: &str =
     "{\"tag\":\"RequestPayload\",\"value\":[{\"tag\":\"Data\",\"type\":\"ByteString\",\"value\":\"00FF\"}]}";
@@ -181,7 +186,7 @@ const WRONG_ID: &str =
     "{\"error\":\"GrammarError\",\"text\":\"item-id= takes an even number of hex digits, at least two\"}\n";
 
 /// Calls of any operation with a Unique Batch Item ID.
-pub const IDENTIFIED_OPERATIONS: &[Row] = &[
+const IDENTIFIED_OPERATIONS: &[Row] = &[
     IDENTIFIED,
     Row {
         shows: "a version before a Unique Batch Item ID",
@@ -289,8 +294,13 @@ pub const IDENTIFIED_OPERATIONS: &[Row] = &[
     },
 ];
 
+/// The calls of any operation with a Unique Batch Item ID.
+pub fn identified_operations() -> &'static [Row] {
+    IDENTIFIED_OPERATIONS
+}
+
 /// Calls of any operation.
-pub const OPERATIONS: &[Row] = &[
+const OPERATIONS: &[Row] = &[
     ENCRYPTED,
     Row {
         shows: "no byte past the message is read",
@@ -455,6 +465,11 @@ pub const OPERATIONS: &[Row] = &[
     },
 ];
 
+/// The calls of any operation.
+pub fn operations() -> &'static [Row] {
+    OPERATIONS
+}
+
 /// A message of a Poll in JSON, its bytes, and a response to it.
 const MESSAGE: &str =
     "{\"tag\":\"RequestMessage\",\"value\":[{\"tag\":\"BatchItem\",\"value\":[{\"tag\":\"Operation\",\"type\":\"Enumeration\",\"value\":\"Poll\"}]}]}";
@@ -481,7 +496,7 @@ const NOT_SENT_AT_ALL: Row = Row {
 };
 
 /// Messages.
-pub const MESSAGES: &[Row] = &[
+const MESSAGES: &[Row] = &[
     SENT,
     Row {
         shows: "a message has no credential but its own",
@@ -527,3 +542,8 @@ pub const MESSAGES: &[Row] = &[
         ..NOT_SENT_AT_ALL
     },
 ];
+
+/// The calls of messages.
+pub fn messages() -> &'static [Row] {
+    MESSAGES
+}
