@@ -173,14 +173,14 @@ fn perform_over<F: Sink>(rt: &HostRuntime, order: &Order, kept: &mut F) -> Statu
         stream: stdin,
         last: &last,
     });
-    let mut told = StdSink::new(rt.stderr());
+    let mut errors = StdSink::new(rt.stderr());
     run(
         rt.alloc(),
         order,
         &mut wire,
         &mut source,
         kept,
-        &mut told,
+        &mut errors,
         &last,
     )
 }

@@ -1,6 +1,6 @@
 pub mod Messages
 pub mod Fronts
-pub mod Errands
+pub mod Asked
 pub mod Exchanges
 pub mod Orders
 pub mod ReadBack

@@ -50,40 +50,40 @@ accepted_by (Ok m) n some = cc
 accepted_by (Err error) n some = absurd (cc)
 
 -- what the first 8 bytes left, or all where there are fewer, say of the message
-pub none_told : (rest front : List ℕ) (limit : Option ℕ) → front ≡ take 8 rest
+pub taken_alone : (rest front : List ℕ) (limit : Option ℕ) → front ≡ take 8 rest
     → contents_of front limit ≡ None → taken_at rest limit ≡ length front
-none_told rest front limit is none =
+taken_alone rest front limit is none =
     let size : length front ≡ min 8 (length rest) = ap length is ∙ length-take 8 rest in
     elim (nat_lt (length front) 8)
     as (λ b. nat_lt (length front) 8 ≡ b
     → cond b None (result_ok (head_says (take 8 front) limit)) ≡ None
     → taken_at rest limit ≡ length front) [
-      | true ↦ λ e said.
+      | true ↦ λ e says.
           let few : length front < 8 = grind (arith, nat_tests, e) in
           let all : length rest ≡ length front = grind (arith, few, size) in
           taken_short rest limit (grind (arith, few, all)) ∙ all
-      | false ↦ λ e said.
+      | false ↦ λ e says.
           let enough : 8 ≤ length front = grind (arith, nat_tests, e) in
           let eight : 8 ≡ length front = grind (arith, enough, size) in
           let long : 8 ≤ length rest = grind (arith, enough, size) in
           let same : take 8 front ≡ take 8 rest =
           ap (λ l. take 8 l) is ∙ short_front 8 (take 8 rest)
           (grind (arith, length-take 8 rest)) in
-          let it = refused_or (head_says (take 8 front) limit) said in
+          let it = refused_or (head_says (take 8 front) limit) says in
           taken_refused rest limit it.0 long (ap (λ b. head_says b limit) (sym same) ∙ it.1) ∙ eight
     ] refl none
 
-pub some_told : (rest front : List ℕ) (limit : Option ℕ) (n : ℕ) → front ≡ take 8 rest
+pub taken_with_contents : (rest front : List ℕ) (limit : Option ℕ) (n : ℕ) → front ≡ take 8 rest
     → contents_of front limit ≡ Some n →
     (length front ≡ 8) × (8 ≤ length rest) × (taken_at rest limit ≡ min (8 + n) (length rest))
-some_told rest front limit n is some =
+taken_with_contents rest front limit n is some =
     let size : length front ≡ min 8 (length rest) = ap length is ∙ length-take 8 rest in
     elim (nat_lt (length front) 8)
     as (λ b. nat_lt (length front) 8 ≡ b
     → cond b None (result_ok (head_says (take 8 front) limit)) ≡ Some n → (length front ≡ 8)
     × (8 ≤ length rest) × (taken_at rest limit ≡ min (8 + n) (length rest))) [
-      | true ↦ λ e said. absurd (cc)
-      | false ↦ λ e said.
+      | true ↦ λ e says. absurd (cc)
+      | false ↦ λ e says.
           let enough : 8 ≤ length front = grind (arith, nat_tests, e) in
           let eight : length front ≡ 8 = grind (arith, enough, size) in
           let long : 8 ≤ length rest = grind (arith, enough, size) in
@@ -94,23 +94,23 @@ some_told rest front limit n is some =
             long,
             taken_accepted rest limit n long
                 (ap (λ b. head_says b limit) (sym same)
-                ∙ accepted_by (head_says (take 8 front) limit) n said),
+                ∙ accepted_by (head_says (take 8 front) limit) n says),
           )
     ] refl some
 
 -- a head that ends it, over any source
 pub one_head : (front : List ℕ) (limit : Option ℕ) → length front ≤ 8
     → contents_of front limit ≡ None → IsOneAtMost limit front
-one_head front limit few none = none_told front front limit (sym (short_front 8 front few)) none
+one_head front limit few none = taken_alone front front limit (sym (short_front 8 front few)) none
 
 -- a head and no more contents than it says, over any source
 pub one_message : (front whole : List ℕ) (limit : Option ℕ) (n : ℕ) → length front ≤ 8
     → contents_of front limit ≡ Some n →
     take (length front) whole ≡ front → length whole ≤ length front + n → IsOneAtMost limit whole
 one_message front whole limit n few some begins small =
-    let eight : length front ≡ 8 = (some_told front front limit n (sym (short_front 8 front few)) some).0 in
+    let eight : length front ≡ 8 = (taken_with_contents front front limit n (sym (short_front 8 front few)) some).0 in
     let is : front ≡ take 8 whole = sym begins ∙ ap (λ k. take k whole) eight in
-    let it = some_told whole front limit n is some in
+    let it = taken_with_contents whole front limit n is some in
     let least : min (8 + n) (length whole) ≡ length whole = grind (arith, small, eight) in
     it.2 ∙ least
 
@@ -122,7 +122,7 @@ pub head_taken : {a b : SourceState} (front : List ℕ) (limit : Option ℕ)
 head_taken {a = a} {b = b} front limit gives is none =
     let rest : List ℕ = source_left a in
     let size : length front ≡ min 8 (length rest) = ap length is ∙ length-take 8 rest in
-    let taken : taken_at rest limit ≡ min 8 (length rest) = none_told rest front limit is none ∙ size in
+    let taken : taken_at rest limit ≡ min 8 (length rest) = taken_alone rest front limit is none ∙ size in
     let P : ℕ → Type 0 = λ n. Gives a b n in
     (subst P (sym taken) gives, is ∙ sym (take_min 8 rest) ∙ ap (λ k. take k rest) (sym taken))
 
@@ -134,7 +134,7 @@ pub message_taken : {a b c : SourceState} (front whole : List ℕ) (limit : Opti
     Gives a c (taken_at (source_left a) limit) × (whole ≡ take (taken_at (source_left a) limit) (source_left a))
 message_taken {a = a} {b = b} {c = c} front whole limit n head is some contents whole_is =
     let rest : List ℕ = source_left a in
-    let it = some_told rest front limit n is some in
+    let it = taken_with_contents rest front limit n is some in
     let eight : min 8 (length rest) ≡ 8 = grind (arith, it.1) in
     let P : ℕ → Type 0 = λ k. Gives a b k in
     let first : Gives a b 8 = subst P eight head in
@@ -158,8 +158,8 @@ head_part {a = a} {b = b} limit part =
     let within : part.0 ≤ min 8 (length rest) = grind (arith, part.1, part.2.within) in (
       part.0,
       elim (contents_of front limit) as (λ o. contents_of front limit ≡ o → part.0 ≤ taken_at rest limit) [
-        | None ↦ λ e. subst P (sym (none_told rest front limit refl e ∙ size)) within
-        | Some n ↦ λ e. (let it = some_told rest front limit n refl e in
+        | None ↦ λ e. subst P (sym (taken_alone rest front limit refl e ∙ size)) within
+        | Some n ↦ λ e. (let it = taken_with_contents rest front limit n refl e in
             subst P (sym it.2) (grind (arith, part.1, part.2.within)))
       ] refl,
       part.2,
@@ -171,7 +171,7 @@ pub contents_part : {a b c : SourceState} (front : List ℕ) (limit : Option ℕ
     contents_of front limit ≡ Some n → GivesPart b c n → GivesPart a c (taken_at (source_left a) limit)
 contents_part {a = a} {b = b} {c = c} front limit n head is some part =
     let rest : List ℕ = source_left a in
-    let it = some_told rest front limit n is some in
+    let it = taken_with_contents rest front limit n is some in
     let eight : min 8 (length rest) ≡ 8 = grind (arith, it.1) in
     let P : ℕ → Type 0 = λ k. Gives a b k in
     let first : Gives a b 8 = subst P eight head in
@@ -189,15 +189,15 @@ one_message_or (Ok done) front whole limit n size all few some begins size_is al
     one_message front whole limit n few some begins (omega (arith, size_is, all_is, small))
 one_message_or (Err error) front whole limit n size all few some begins size_is all_is small = tt
 
-pub message_taken_or : {T E : Type 0} (a b c : SourceState) (tells told : Type 0)
+pub message_taken_or : {T E : Type 0} (a b c : SourceState) (first second : Type 0)
     (result : Result T E) (front whole : List ℕ) (limit : Option ℕ) (n : ℕ)
-    → contents_of front limit ≡ Some n → (tells → told) →
-    (tells → Gives a b (min 8 (length (source_left a))) × (front ≡ take 8 (source_left a))) →
-    OnOk result (told → Gives b c (min n (length (source_left b))) × (whole ≡ front ++ take n (source_left b))) →
-    OnOk result (tells → Gives a c (taken_at (source_left a) limit)
+    → contents_of front limit ≡ Some n → (first → second) →
+    (first → Gives a b (min 8 (length (source_left a))) × (front ≡ take 8 (source_left a))) →
+    OnOk result (second → Gives b c (min n (length (source_left b))) × (whole ≡ front ++ take n (source_left b))) →
+    OnOk result (first → Gives a c (taken_at (source_left a) limit)
     × (whole ≡ take (taken_at (source_left a) limit) (source_left a)))
-message_taken_or a b c tells told (Ok done) front whole limit n some on head contents = λ t.
+message_taken_or a b c first second (Ok done) front whole limit n some on head contents = λ t.
     let first = head t in
     let rest = contents (on t) in
     message_taken front whole limit n first.0 first.1 some rest.0 rest.1
-message_taken_or a b c tells told (Err error) front whole limit n some on head contents = tt
+message_taken_or a b c first second (Err error) front whole limit n some on head contents = tt

@@ -1,4 +1,4 @@
--- There is a refusal for each order, and it is told or it is not.
+-- There is a refusal for each order, and it is written or it is not.
 use Rattle.std.proofs.Common.{◌≡◌, arith, ℕ, Bool, true, false, List, [], ◌∷◌, ◌++◌, Option, Some, None, refl, sym, ap, subst, codes}
 use Rattle.std.specs.Prelude.{IsTrue}
 use Rattle.std.specs.Option.{is_none}
@@ -11,7 +11,7 @@ use Rattle.kmip_operations.specs.Calls.{operation_named, version_written}
 use Rattle.kmip_caller.specs.TreeWords.{TreeText, an_operation, a_message, tree_words, item_id}
 use Rattle.kmip_caller.specs.declared.command.Order.{Order}
 use Rattle.kmip_caller.specs.declared.status.Status.TheVariants.{NoCall, OutOfMemory}
-use Rattle.kmip_caller.specs.Refusal.{IsWrongBy, IsWrongTree, IsNoTree, IsWhyNotBy, IsWhyNot, IsRefusal, IsTold, grammar_line, not_typed}
+use Rattle.kmip_caller.specs.Refusal.{IsWrongBy, IsWrongTree, IsNoTree, IsWhyNotBy, IsWhyNot, IsRefusal, IsRefusalWritten, grammar_line, not_typed}
 use Rattle.kmip_caller.proofs.Exchanges.{append_none}
 
 -- nothing at all is a first part of a text
@@ -47,22 +47,22 @@ some_refusal order = refusal_of order (why_not_by (tree_words order.words) order
 no_call_made : OutOfMemory ≡ NoCall → ⊥
 no_call_made e = cc
 
-untold_of : (order : Order) (w : SinkState) → ((line : List ℕ) × IsRefusal order line)
-    → IsTold order (OutOfMemory ≡ NoCall) w w
-untold_of order w (line, is) =
-    (line, is, (λ whole tells no_fault. absurd (no_call_made whole)), (λ tells. none_written w line))
+nothing_written_of : (order : Order) (w : SinkState) → ((line : List ℕ) × IsRefusal order line)
+    → IsRefusalWritten order (OutOfMemory ≡ NoCall) w w
+nothing_written_of order w (line, is) =
+    (line, is, (λ whole visible no_fault. absurd (no_call_made whole)), (λ visible. none_written w line))
 
 -- where memory ran out before there was a text
-pub untold : (order : Order) (w : SinkState) → IsTold order (OutOfMemory ≡ NoCall) w w
-untold order w = untold_of order w (some_refusal order)
+pub nothing_written : (order : Order) (w : SinkState) → IsRefusalWritten order (OutOfMemory ≡ NoCall) w w
+nothing_written order w = nothing_written_of order w (some_refusal order)
 
-pub told : (order : Order) (whole : Type 0) (before after : SinkState) (text shown : List ℕ)
+pub refusal_written : (order : Order) (whole : Type 0) (before after : SinkState) (text shown : List ℕ)
     → shown ≡ text → IsWhyNot order text
     → (whole → IsTrue before.tells → (FaultCountRose before.faults after.faults → ⊥) →
     after.sent ≡ before.sent ++ grammar_line shown)
     → (IsTrue before.tells → WrotePart before after (grammar_line shown))
-    → IsTold order whole before after
-told order whole before after text shown same why line part =
+    → IsRefusalWritten order whole before after
+refusal_written order whole before after text shown same why line part =
     (grammar_line shown, (text, why, ap grammar_line same), line, part)
 
 -- the line is JSON

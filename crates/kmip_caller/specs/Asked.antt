@@ -8,7 +8,7 @@ use Rattle.kmip_words.specs.declared.call.Call.{Call}
 use Rattle.kmip_operations.specs.Calls.{Asks, IsMessageText, request_of}
 use Rattle.kmip_caller.specs.Record.{is_recordable, recorded_words}
 use Rattle.kmip_caller.specs.TreeWords.{TreeText, an_operation, a_message, tree_words, item_id}
-use Rattle.kmip_caller.specs.Exchange.{Errand, typed_errand, operation_errand, message_errand}
+use Rattle.kmip_caller.specs.Exchange.{Exchange, typed_exchange, operation_exchange, message_exchange}
 use Rattle.kmip_caller.specs.declared.command.Order.{Order}
 use Rattle.kmip_caller.specs.declared.requested.Asked.{Asked}
 use Rattle.kmip_caller.specs.declared.requested.Asked.TheVariants as asked
@@ -23,34 +23,34 @@ is_allowed None words = true
 abbrev pub call_for : Order → Option Call
 call_for order = if is_allowed order.file order.words then typed_call order.words else None
 
--- These words, whose payload or message is in JSON, ask for this errand.
-abbrev pub AsksTree : Settings → TreeText → Errand → Type 0
-AsksTree settings (an_operation name version hex payload) errand =
+-- These words, whose payload or message is in JSON, ask for this exchange.
+abbrev pub AsksTree : Settings → TreeText → Exchange → Type 0
+AsksTree settings (an_operation name version hex payload) exchange =
     (request : TreeRequest) × (item_id hex ≡ Some request.id)
-    × Asks name version request.id payload request × (errand ≡ operation_errand settings request)
-AsksTree settings (a_message text) errand =
-    (message : Tree) × IsMessageText text message × (errand ≡ message_errand settings message)
+    × Asks name version request.id payload request × (exchange ≡ operation_exchange settings request)
+AsksTree settings (a_message text) exchange =
+    (message : Tree) × IsMessageText text message × (exchange ≡ message_exchange settings message)
 
--- The order asks for this errand: by such words, where it is not to be recorded, or by those of a
+-- The order asks for this exchange: by such words, where it is not to be recorded, or by those of a
 -- typed call.
-pub data AsksFor (order : Order) (errand : Errand) : Type 0 where
+pub data AsksFor (order : Order) (exchange : Exchange) : Type 0 where
   tree : order.file ≡ None → (text : TreeText) → tree_words order.words ≡ Some text →
-      AsksTree order.settings text errand → AsksFor order errand
+      AsksTree order.settings text exchange → AsksFor order exchange
   typed : tree_words order.words ≡ None →
-      (call : Call) → call_for order ≡ Some call → errand ≡ typed_errand order.settings call →
-      AsksFor order errand
+      (call : Call) → call_for order ≡ Some call → exchange ≡ typed_exchange order.settings call →
+      AsksFor order exchange
 
 abbrev pub AsksForNone : Order → Type 0
-AsksForNone order = (errand : Errand) → AsksFor order errand → ⊥
+AsksForNone order = (exchange : Exchange) → AsksFor order exchange → ⊥
 
--- the errand of what the code found in the words
-abbrev pub errand_of : Settings → Asked → Errand
-errand_of settings (asked.Typed call) = typed_errand settings call
-errand_of settings (asked.Operation call) = operation_errand settings (request_of call)
-errand_of settings (asked.Message message) = message_errand settings message
+-- the exchange of what the code found in the words
+abbrev pub exchange_of : Settings → Asked → Exchange
+exchange_of settings (asked.Typed call) = typed_exchange settings call
+exchange_of settings (asked.Operation call) = operation_exchange settings (request_of call)
+exchange_of settings (asked.Message message) = message_exchange settings message
 
--- The code found what the order asks for, and the request is that of its errand: its one canonical
+-- The code found what the order asks for, and the request is that of its exchange: its one canonical
 -- message, none where it has no wire form.
 pub record Requests (order : Order) (asked : Asked) (request : Option (List ℕ)) : Type 0 where
-  pub asks : AsksFor order (errand_of order.settings asked)
-  pub message : request ≡ (errand_of order.settings asked).message
+  pub asks : AsksFor order (exchange_of order.settings asked)
+  pub message : request ≡ (exchange_of order.settings asked).message

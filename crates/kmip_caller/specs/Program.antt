@@ -5,8 +5,8 @@ use Rattle.kmip_words.specs.Streams.{WrotePart}
 use Rattle.kmip_words.specs.declared.ending.Ending.{Ending}
 use Rattle.kmip_words.specs.declared.ending.Ending.TheVariants.{Answered, Refused, Lost}
 use Rattle.kmip_caller.specs.Record.{record_of}
-use Rattle.kmip_caller.specs.Refusal.{IsTold}
-use Rattle.kmip_caller.specs.Exchange.{Errand, Carried, CarriedPart}
+use Rattle.kmip_caller.specs.Refusal.{IsRefusalWritten}
+use Rattle.kmip_caller.specs.Exchange.{Exchange, Carried, CarriedPart}
 use Rattle.kmip_caller.specs.Asked.{AsksFor, AsksForNone}
 use Rattle.kmip_caller.specs.declared.command.Order.{Order}
 use Rattle.kmip_caller.specs.declared.status.Status.{Status}
@@ -29,9 +29,9 @@ is_ended status = false
 -- What the order asks for was carried, with this line for its answer.
 pub record Makes (order : Order) (w0 w1 : SinkState) (s0 s1 : SourceState)
     (response : Option (List ℕ)) (line : List ℕ) (ending : Ending) : Type 0 where
-  pub errand : Errand
-  pub asks : AsksFor order errand
-  pub carried : Carried order.settings.limit errand w0 w1 s0 s1 response line ending
+  pub exchange : Exchange
+  pub asks : AsksFor order exchange
+  pub carried : Carried order.settings.limit exchange w0 w1 s0 s1 response line ending
 
 -- what the program reads from and writes to: the wire and the source of a call, and the sinks of
 -- its record and of its answer
@@ -39,11 +39,11 @@ pub record Streams : Type 0 where
   pub wire : SinkState
   pub source : SourceState
   pub kept : SinkState
-  pub told : SinkState
+  pub errors : SinkState
 
 abbrev pub streams : SinkState → SourceState → SinkState → SinkState → Streams
-streams wire source kept told =
-    record { wire = wire; source = source; kept = kept; told = told }
+streams wire source kept errors =
+    record { wire = wire; source = source; kept = kept; errors = errors }
 
 -- No call is made, and the answer says why.
 pub record Refuses (order : Order) (before after : Streams) (status : Status) : Type 0 where
@@ -53,7 +53,7 @@ pub record Refuses (order : Order) (before after : Streams) (status : Status) : 
   pub source : after.source ≡ before.source
   pub kept : after.kept ≡ before.kept
   -- a refusal is written, unless its sink failed or memory ran out, and at most that
-  pub told : IsTold order (status ≡ NoCall) before.told after.told
+  pub errors : IsRefusalWritten order (status ≡ NoCall) before.errors after.errors
 
 -- The record of a call with this response, and this line of its answer, were written.
 pub record Reports (order : Order) (response : Option (List ℕ)) (line : List ℕ) (ending : Ending)
@@ -64,36 +64,36 @@ pub record Reports (order : Order) (response : Option (List ℕ)) (line : List �
       f1.sent ≡ f0.sent ++ record_of order.file order.words response
   pub recorded_part : IsTrue f0.tells → WrotePart f0 f1 (record_of order.file order.words response)
   -- answer: whole, or a first part of it
-  pub told : IsTrue (is_ended status) → IsTrue k0.tells → k1.sent ≡ k0.sent ++ line
-  pub told_part : IsTrue k0.tells → WrotePart k0 k1 line
+  pub written : IsTrue (is_ended status) → IsTrue k0.tells → k1.sent ≡ k0.sent ++ line
+  pub written_part : IsTrue k0.tells → WrotePart k0 k1 line
   -- an answer is not lost with its record
-  pub still_told : status ≡ NotWritten → IsTrue k0.tells →
+  pub still_written : status ≡ NotWritten → IsTrue k0.tells →
       (FaultCountRose k0.faults k1.faults → ⊥) → k1.sent ≡ k0.sent ++ line
   -- one of the two sinks failed
   pub cause : status ≡ NotWritten → FaultCountRose f0.faults f1.faults ⊎ FaultCountRose k0.faults k1.faults
 
 -- The call was made, and reported.
-pub record Made (order : Order) (errand : Errand) (before after : Streams) (status : Status) : Type 0 where
+pub record Made (order : Order) (exchange : Exchange) (before after : Streams) (status : Status) : Type 0 where
   pub response : Option (List ℕ)
   pub line : List ℕ
   pub ending : Ending
-  pub carried : Carried order.settings.limit errand before.wire after.wire before.source after.source
+  pub carried : Carried order.settings.limit exchange before.wire after.wire before.source after.source
       response line ending
-  pub reports : Reports order response line ending before.kept after.kept before.told after.told
+  pub reports : Reports order response line ending before.kept after.kept before.errors after.errors
       status
 
 -- Memory ran out before the call had an answer: it was carried in part, and nothing was written.
-pub record BrokenOff (limit : Option ℕ) (errand : Errand) (before after : Streams)
+pub record BrokenOff (limit : Option ℕ) (exchange : Exchange) (before after : Streams)
     (status : Status) : Type 0 where
   pub status_is : status ≡ OutOfMemory
-  pub carried : CarriedPart limit errand before.wire after.wire before.source after.source
+  pub carried : CarriedPart limit exchange before.wire after.wire before.source after.source
   pub kept : after.kept ≡ before.kept
-  pub told : after.told ≡ before.told
+  pub errors : after.errors ≡ before.errors
 
 -- What the program did with an order: it refused it, where that asks for nothing, or else made the
 -- call or broke it off.
 pub record Runs (order : Order) (before after : Streams) (status : Status) : Type 0 where
   pub refuses : AsksForNone order → Refuses order before after status
-  pub makes : (errand : Errand) → AsksFor order errand →
-      Made order errand before after status
-      ⊎ BrokenOff order.settings.limit errand before after status
+  pub makes : (exchange : Exchange) → AsksFor order exchange →
+      Made order exchange before after status
+      ⊎ BrokenOff order.settings.limit exchange before after status

@@ -6,7 +6,7 @@ use Rattle.kmip_shape.specs.declared.style.Style.TheVariants.{Json}
 use Rattle.kmip_link.specs.State.{SinkState, FaultCountRose}
 use Rattle.kmip_words.specs.Streams.{WrotePart}
 use Rattle.kmip_words.specs.Calls.{typed_call}
-use Rattle.kmip_words.specs.Complaints.{refusal as said_of}
+use Rattle.kmip_words.specs.Complaints.{refusal as words_refusal}
 use Rattle.kmip_words.specs.declared.call.Call.{Call}
 use Rattle.kmip_operations.specs.Calls.{operation_named, version_written}
 use Rattle.kmip_caller.specs.TreeWords.{TreeText, an_operation, a_message, tree_words, item_id}
@@ -21,7 +21,7 @@ grammar_line text =
 -- cannot hold them
 abbrev pub not_typed : Option Call → List (List ℕ) → List ℕ
 not_typed (Some call) words = codes "a record cannot hold these words"
-not_typed None words = said_of words
+not_typed None words = words_refusal words
 
 -- what is said of a payload or a message that is none: what it is, and why
 abbrev pub IsNotRead : List ℕ → List ℕ → Type 0
@@ -65,8 +65,8 @@ abbrev pub IsRefusal : Order → List ℕ → Type 0
 IsRefusal order line = (text : List ℕ) × IsWhyNot order text × (line ≡ grammar_line text)
 
 -- a refusal is written, unless its sink failed or memory ran out, and at most that
-abbrev pub IsTold : Order → Type 0 → SinkState → SinkState → Type 0
-IsTold order whole before after =
+abbrev pub IsRefusalWritten : Order → Type 0 → SinkState → SinkState → Type 0
+IsRefusalWritten order whole before after =
     (line : List ℕ) × IsRefusal order line
     × (whole → IsTrue before.tells → (FaultCountRose before.faults after.faults → ⊥) →
     after.sent ≡ before.sent ++ line)

@@ -3,9 +3,9 @@ ghost use Rattle.std.specs.Prelude.{◌≡◌, cond, Some, option_map, IfOk, OnE
 ghost use Rattle.kmip_words.specs.Exchange.{loses_link};
 ghost use Rattle.kmip_words.specs.About.{response_line, response_ending};
 ghost use Rattle.kmip_words.specs.declared.ending.Ending.TheVariants as endings;
-ghost use Rattle.kmip_caller.specs.Exchange.{Errand as TheErrand, failure_line, CarriedPart};
+ghost use Rattle.kmip_caller.specs.Exchange.{Exchange as TheExchange, failure_line, CarriedPart};
 ghost use Rattle.kmip_caller.specs.Exchange.{IsLinkFailed};
-ghost use Rattle.kmip_caller.specs.Asked.{errand_of, AsksFor, Requests};
+ghost use Rattle.kmip_caller.specs.Asked.{exchange_of, AsksFor, Requests};
 ghost use Rattle.kmip_caller.specs.Program.{Makes};
 
 use crate::command::Order;
@@ -56,9 +56,9 @@ fn answer_to(
     response: &[u8],
 ) -> Result<TreeAnswer, OutOfMemory>
     ensures line { IfOk result (λ answer.
-        answer.line.items ≡ (errand_of settings.now asked.now).line response.now) }
+        answer.line.items ≡ (exchange_of settings.now asked.now).line response.now) }
     ensures ending { IfOk result (λ answer.
-        answer.ending ≡ (errand_of settings.now asked.now).ending response.now) }
+        answer.ending ≡ (exchange_of settings.now asked.now).ending response.now) }
 {
     match asked {
         Asked::Typed(call) => typed_answer(alloc, settings, call, response),
@@ -87,9 +87,9 @@ fn answered(
     response: Vec<u8>,
 ) -> Result<CallEnd, OutOfMemory>
     ensures line { IfOk result (λ end.
-        end.line.items ≡ (errand_of settings.now asked.now).line response.items) }
+        end.line.items ≡ (exchange_of settings.now asked.now).line response.items) }
     ensures ending { IfOk result (λ end.
-        end.ending ≡ (errand_of settings.now asked.now).ending response.items) }
+        end.ending ≡ (exchange_of settings.now asked.now).ending response.items) }
     ensures response { IfOk result
         (λ end. option_map (λ r. r.items) end.response ≡ Some response.items) }
 {
@@ -119,7 +119,7 @@ fn failed(alloc: Global, error: Error, response: Option<Vec<u8>>) -> Result<Call
     })
 }
 
-/// That the sink or the source failed, and the reason, where the system tells one.
+/// That the sink or the source failed, and the reason, where the system gives one.
 fn link_failed(alloc: Global, last: &LastError) -> Result<Text, OutOfMemory>
     ensures { IfOk result (λ text. IsLinkFailed text) }
 {
@@ -144,8 +144,8 @@ pub fn exchange<W: Sink, S: Source>(
     ensures made { IfOk result
         (λ end. Makes order.now (W.state wire.old) (W.state wire.new) (S.state source.old)
         (S.state source.new) (option_map (λ r. r.items) end.response) end.line.items end.ending) }
-    ensures broken_off { OnErr result ((errand : TheErrand) → AsksFor order.now errand →
-        CarriedPart order.now.settings.limit errand (W.state wire.old) (W.state wire.new)
+    ensures broken_off { OnErr result ((exchange : TheExchange) → AsksFor order.now exchange →
+        CarriedPart order.now.settings.limit exchange (W.state wire.old) (W.state wire.new)
         (S.state source.old) (S.state source.new)) }
 {
     let mut response = Vec::new(alloc);

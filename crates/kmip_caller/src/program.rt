@@ -3,7 +3,7 @@ ghost use Rattle.std.specs.Prelude.{◌≡◌, ◌++◌, ◌⊎◌, option_map, 
 ghost use Rattle.std.specs.Prelude.{IfOk, OnOk, OnErr, IsErrOf, IsTrue, MatchOption};
 ghost use Rattle.kmip_link.specs.State.{FaultCountRose};
 ghost use Rattle.kmip_words.specs.Streams.{WrotePart};
-ghost use Rattle.kmip_caller.specs.Exchange.{Errand as TheErrand, CarriedPart};
+ghost use Rattle.kmip_caller.specs.Exchange.{Exchange as TheExchange, CarriedPart};
 ghost use Rattle.kmip_caller.specs.Record.{record_of};
 ghost use Rattle.kmip_caller.specs.Asked.{AsksFor, AsksForNone};
 ghost use Rattle.kmip_caller.specs.Program.{is_ended, Makes, streams, Runs};
@@ -32,8 +32,8 @@ fn make_call<W: Sink, S: Source>(
     ensures none { IfOk result (λ end. end ≡ None → AsksForNone order.now) }
     ensures wire { AsksForNone order.now → W.state wire.new ≡ W.state wire.old }
     ensures source { AsksForNone order.now → S.state source.new ≡ S.state source.old }
-    ensures broken_off { OnErr result ((errand : TheErrand) → AsksFor order.now errand →
-        CarriedPart order.now.settings.limit errand (W.state wire.old) (W.state wire.new)
+    ensures broken_off { OnErr result ((exchange : TheExchange) → AsksFor order.now exchange →
+        CarriedPart order.now.settings.limit exchange (W.state wire.old) (W.state wire.new)
         (S.state source.old) (S.state source.new)) }
     ensures made { IfOk result
         (λ end. MatchOption end (Unit {0})
@@ -76,7 +76,7 @@ fn report<F: Sink, K: Sink>(
     order: &Order,
     end: &CallEnd,
     kept: &mut F,
-    told: &mut K,
+    errors: &mut K,
 ) -> Status
     ensures status { (result ≡ Status.Ended end.now.ending)
         ⊎ ((result ≡ Status.NotWritten) ⊎ (result ≡ Status.OutOfMemory)) }
@@ -86,19 +86,19 @@ fn report<F: Sink, K: Sink>(
     ensures recorded_part { IsTrue (F.state kept.old).tells →
         WrotePart (F.state kept.old) (F.state kept.new)
         (record_of order.now.file order.now.words (option_map (λ r. r.items) end.now.response)) }
-    ensures told { IsTrue (is_ended result) → IsTrue (K.state told.old).tells →
-        (K.state told.new).sent ≡ (K.state told.old).sent ++ end.now.line.items }
-    ensures told_part { IsTrue (K.state told.old).tells →
-        WrotePart (K.state told.old) (K.state told.new) end.now.line.items }
-    ensures still_told { result ≡ Status.NotWritten → IsTrue (K.state told.old).tells →
-        (FaultCountRose (K.state told.old).faults (K.state told.new).faults → ⊥) →
-        (K.state told.new).sent ≡ (K.state told.old).sent ++ end.now.line.items }
+    ensures written { IsTrue (is_ended result) → IsTrue (K.state errors.old).tells →
+        (K.state errors.new).sent ≡ (K.state errors.old).sent ++ end.now.line.items }
+    ensures written_part { IsTrue (K.state errors.old).tells →
+        WrotePart (K.state errors.old) (K.state errors.new) end.now.line.items }
+    ensures still_written { result ≡ Status.NotWritten → IsTrue (K.state errors.old).tells →
+        (FaultCountRose (K.state errors.old).faults (K.state errors.new).faults → ⊥) →
+        (K.state errors.new).sent ≡ (K.state errors.old).sent ++ end.now.line.items }
     ensures cause { result ≡ Status.NotWritten →
         FaultCountRose (F.state kept.old).faults (F.state kept.new).faults
-        ⊎ FaultCountRose (K.state told.old).faults (K.state told.new).faults }
+        ⊎ FaultCountRose (K.state errors.old).faults (K.state errors.new).faults }
 {
     let recorded = keep(alloc, order, &end.response, kept);
-    match write_out(told, &end.line) {
+    match write_out(errors, &end.line) {
         Ok(()) => match recorded {
             Ok(()) => Status::Ended(end.ending),
             Err(LinkError::Fault) => Status::NotWritten,
@@ -111,15 +111,15 @@ fn report<F: Sink, K: Sink>(
 
 /// Makes a call, and returns how the program ends.
 ///
-/// The request goes to `wire`, the response comes from `source`, the answer goes to `told` as a
+/// The request goes to `wire`, the response comes from `source`, the answer goes to `errors` as a
 /// line of JSON, and the record to `kept`, where `record=FILE` asks for one. What `wire` and `source`
 /// last failed with is in `last`.
 ///
 /// - `Ended`: the call was made, and its record and its answer were written.
 /// - `NoCall`: the words are not of the grammar, or a record cannot hold them; nothing was sent,
-///   read or recorded, and `told` got a line of JSON that says why, or a part of it where it failed.
+///   read or recorded, and `errors` got a line of JSON that says why, or a part of it where it failed.
 /// - `NotWritten`: the record or the answer could not be written; the exchange was made, and the
-///   answer was written where `told` did not fail.
+///   answer was written where `errors` did not fail.
 /// - `OutOfMemory`: memory ran out, and the request may have been sent: close the connection.
 pub fn run<W: Sink, S: Source, F: Sink, K: Sink>(
     alloc: Global,
@@ -127,17 +127,17 @@ pub fn run<W: Sink, S: Source, F: Sink, K: Sink>(
     wire: &mut W,
     source: &mut S,
     kept: &mut F,
-    told: &mut K,
+    errors: &mut K,
     last: &LastError,
 ) -> Status
     ensures { Runs order.now
-        (streams (W.state wire.old) (S.state source.old) (F.state kept.old) (K.state told.old))
-        (streams (W.state wire.new) (S.state source.new) (F.state kept.new) (K.state told.new))
+        (streams (W.state wire.old) (S.state source.old) (F.state kept.old) (K.state errors.old))
+        (streams (W.state wire.new) (S.state source.new) (F.state kept.new) (K.state errors.new))
         result }
 {
     match make_call(alloc, order, wire, source, last) {
-        Ok(Some(end)) => report(alloc, order, &end, kept, told),
-        Ok(None) => refuse_words(alloc, order, told),
+        Ok(Some(end)) => report(alloc, order, &end, kept, errors),
+        Ok(None) => refuse_words(alloc, order, errors),
         Err(OutOfMemory) => Status::OutOfMemory,
     }
 }

@@ -5,7 +5,7 @@ ghost use Rattle.kmip_link.specs.State.{FaultCountRose};
 ghost use Rattle.kmip_words.specs.Calls.{typed_call};
 ghost use Rattle.kmip_caller.specs.Refusal.{grammar_line, not_typed};
 ghost use Rattle.kmip_caller.specs.Refusal.{IsNotRead, IsWrongOperation, IsWrongTree, IsNoTree};
-ghost use Rattle.kmip_caller.specs.Refusal.{IsWhyNot, IsTold, IsRefusal};
+ghost use Rattle.kmip_caller.specs.Refusal.{IsWhyNot, IsRefusalWritten, IsRefusal};
 ghost use Rattle.kmip_caller.specs.TreeWords.{tree_text};
 ghost use Rattle.kmip_caller.specs.declared.command.Order.{Order as TheOrder};
 ghost use Rattle.kmip_words.specs.JsonLines.{IsGrammarLine};
@@ -150,30 +150,30 @@ fn grammar_line(alloc: Global, text: &str) -> Result<Text, OutOfMemory>
 
 /// Writes a `GrammarError` with this text as a line of JSON, and returns `NoCall`, or `OutOfMemory`
 /// where memory ran out. Where the sink failed, a part of the line was written.
-pub fn refuse<K: Sink>(alloc: Global, text: &str, told: &mut K) -> Status
+pub fn refuse<K: Sink>(alloc: Global, text: &str, errors: &mut K) -> Status
     ensures status { (result ≡ Status.NoCall) ⊎ (result ≡ Status.OutOfMemory) }
-    ensures line { result ≡ Status.NoCall → IsTrue (K.state told.old).tells →
-        (FaultCountRose (K.state told.old).faults (K.state told.new).faults → ⊥) →
-        (K.state told.new).sent ≡ (K.state told.old).sent ++ grammar_line text.now }
-    ensures part { IsTrue (K.state told.old).tells →
-        WrotePart (K.state told.old) (K.state told.new) (grammar_line text.now) }
+    ensures line { result ≡ Status.NoCall → IsTrue (K.state errors.old).tells →
+        (FaultCountRose (K.state errors.old).faults (K.state errors.new).faults → ⊥) →
+        (K.state errors.new).sent ≡ (K.state errors.old).sent ++ grammar_line text.now }
+    ensures part { IsTrue (K.state errors.old).tells →
+        WrotePart (K.state errors.old) (K.state errors.new) (grammar_line text.now) }
 {
     let Ok(line) = grammar_line(alloc, text) else {
         return Status::OutOfMemory;
     };
-    match write_out(told, line.as_str().as_bytes()) {
+    match write_out(errors, line.as_str().as_bytes()) {
         Ok(()) | Err(LinkError::Fault) => Status::NoCall,
         Err(LinkError::OutOfMemory) => Status::OutOfMemory,
     }
 }
 
 /// Writes why nothing that an order asks for is made, in the same way.
-pub fn refuse_words<K: Sink>(alloc: Global, order: &Order, told: &mut K) -> Status
+pub fn refuse_words<K: Sink>(alloc: Global, order: &Order, errors: &mut K) -> Status
     ensures status { (result ≡ Status.NoCall) ⊎ (result ≡ Status.OutOfMemory) }
-    ensures told { IsTold order.now (result ≡ Status.NoCall) (K.state told.old) (K.state told.new) }
+    ensures written { IsRefusalWritten order.now (result ≡ Status.NoCall) (K.state errors.old) (K.state errors.new) }
 {
     match why_not(alloc, order) {
-        Ok(text) => refuse(alloc, text.as_str(), told),
+        Ok(text) => refuse(alloc, text.as_str(), errors),
         Err(OutOfMemory) => Status::OutOfMemory,
     }
 }

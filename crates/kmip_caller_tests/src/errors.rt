@@ -438,7 +438,10 @@ const AROUND: &[Row] = &[
     Row {
         shows: "an answer that is not written",
         words: &["record=calls", "rng", "16"],
-        failing: Failing { told: &[0], ..NONE },
+        failing: Failing {
+            errors: &[0],
+            ..NONE
+        },
         line: "",
         status: 4,
         record: RECORD,

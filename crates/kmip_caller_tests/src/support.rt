@@ -31,14 +31,14 @@ pub struct Failing {
     pub wire: &'static [u64],
     pub source: &'static [u64],
     pub kept: &'static [u64],
-    pub told: &'static [u64],
+    pub errors: &'static [u64],
 }
 
 pub const NONE: Failing = Failing {
     wire: &[],
     source: &[],
     kept: &[],
-    told: &[],
+    errors: &[],
 };
 
 /// What the program sends and writes for these words over this response, with which status it ends, how many bytes of
@@ -129,7 +129,7 @@ struct Ends {
     wire: MemorySink,
     source: MemorySource,
     kept: MemorySink,
-    told: MemorySink,
+    errors: MemorySink,
 }
 
 fn ends_of(alloc: Global, row: &Row) -> Result<Ends, Fail> {
@@ -138,7 +138,7 @@ fn ends_of(alloc: Global, row: &Row) -> Result<Ends, Fail> {
         wire: MemorySink::new(alloc, row.failing.wire)?,
         source: MemorySource::new(alloc, response.as_slice(), row.failing.source)?,
         kept: MemorySink::new(alloc, row.failing.kept)?,
-        told: MemorySink::new(alloc, row.failing.told)?,
+        errors: MemorySink::new(alloc, row.failing.errors)?,
     })
 }
 
@@ -176,7 +176,7 @@ fn is_as_the_row_says(
     row: &Row,
 ) -> Result<(), Fail> {
     let left = left_in(alloc, &mut ends.source)?;
-    is_text(rt, ends.told.written(), row.line, row.shows);
+    is_text(rt, ends.errors.written(), row.line, row.shows);
     assert_eq!(rt;
         [status as usize, left],
         [row.status as usize, row.left],
@@ -197,10 +197,10 @@ fn ordered(alloc: Global, command: &Option<Command>, ends: &mut Ends) -> Status 
             &mut ends.wire,
             &mut ends.source,
             &mut ends.kept,
-            &mut ends.told,
+            &mut ends.errors,
             &LastError::new(),
         ),
-        None => refuse(alloc, WRONG_LIMIT, &mut ends.told),
+        None => refuse(alloc, WRONG_LIMIT, &mut ends.errors),
         _ => Status::NoCall,
     }
 }

@@ -46,12 +46,12 @@ returns-in-Err-ReadFault-clause-made g c =
 
 pub returns-in_err-text-clause-broken_off : goal.returns-in_err-text-clause-broken_off
 returns-in_err-text-clause-broken_off g c =
-    on_err c.from_residual.result (λ errand given. part_unsent c.args.order.now.settings.limit errand
+    on_err c.from_residual.result (λ exchange given. part_unsent c.args.order.now.settings.limit exchange
     (g.W.Sink.state c.args.wire.now) (g.S.Source.state c.args.source.now))
 
 pub returns-in_default-clause-broken_off : goal.returns-in_default-clause-broken_off
 returns-in_default-clause-broken_off g c =
-    on_err c.failed.result (λ errand given. part_unsent c.args.order.now.settings.limit errand
+    on_err c.failed.result (λ exchange given. part_unsent c.args.order.now.settings.limit exchange
     (g.W.Sink.state c.args.wire.now) (g.S.Source.state c.args.source.now))
 
 pub returns-in-Ok-clause-broken_off : goal.returns-in-Ok-clause-broken_off

@@ -1,4 +1,4 @@
-use Rattle.kmip_caller.proofs.Errands.{asked_clash}
+use Rattle.kmip_caller.proofs.Asked.{asked_clash}
 use Rattle.kmip_caller.proofs.Exchanges.{part_unsent, on_err}
 use Rattle.kmip_caller.proofs.program.make_call.Goals as goal
 
@@ -8,7 +8,7 @@ exchange-requires g c = rw c.in-Some.is at c.in_ok-requested.ensures
 pub returns-in_err-requested-clause-broken_off : goal.returns-in_err-requested-clause-broken_off
 returns-in_err-requested-clause-broken_off g c =
     on_err c.from_residual.result
-    (λ errand given. part_unsent c.args.order.now.settings.limit errand (g.W.Sink.state c.args.wire.now)
+    (λ exchange given. part_unsent c.args.order.now.settings.limit exchange (g.W.Sink.state c.args.wire.now)
     (g.S.Source.state c.args.source.now))
 
 pub returns-in_err-exchange-in-Some-clause-broken_off : goal.returns-in_err-exchange-in-Some-clause-broken_off

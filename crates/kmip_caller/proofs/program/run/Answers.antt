@@ -9,16 +9,16 @@ returns-in-Ok-Some g c =
     made c.args.order.now (g.W.Sink.state c.args.wire.now) (g.W.Sink.state c.make_call.new.wire)
     (g.S.Source.state c.args.source.now) (g.S.Source.state c.make_call.new.source)
     (g.F.Sink.state c.args.kept.now) (g.F.Sink.state c.report.new.kept)
-    (g.K.Sink.state c.args.told.now) (g.K.Sink.state c.report.new.told)
+    (g.K.Sink.state c.args.errors.now) (g.K.Sink.state c.report.new.errors)
     _ _ _ c.report.result
     (rw c.in-Ok-Some.field-0-is at c.in-Ok-Some.ensures.made)
     (record {
       status_is = e.status;
       recorded = e.recorded;
       recorded_part = e.recorded_part;
-      told = e.told;
-      told_part = e.told_part;
-      still_told = e.still_told;
+      written = e.written;
+      written_part = e.written_part;
+      still_written = e.still_written;
       cause = e.cause;
     })
 
@@ -28,16 +28,16 @@ returns-in-Ok-None g c =
     let none = c.in-Ok-None.ensures.none c.in-Ok-None.field-0-is in
     refused c.args.order.now (streams (g.W.Sink.state c.args.wire.now)
     (g.S.Source.state c.args.source.now) (g.F.Sink.state c.args.kept.now)
-    (g.K.Sink.state c.args.told.now))
+    (g.K.Sink.state c.args.errors.now))
     (streams (g.W.Sink.state c.make_call.new.wire) (g.S.Source.state c.make_call.new.source)
-    (g.F.Sink.state c.args.kept.now) (g.K.Sink.state c.refuse_words.new.told))
+    (g.F.Sink.state c.args.kept.now) (g.K.Sink.state c.refuse_words.new.errors))
     c.refuse_words.result none
     (record {
       status_is = e.status;
       wire = c.make_call.ensures.wire none;
       source = c.make_call.ensures.source none;
       kept = refl;
-      told = e.told;
+      errors = e.written;
     })
 
 pub returns-in-Err : goal.returns-in-Err
@@ -45,5 +45,5 @@ returns-in-Err g c =
     broken_off c.args.order.now (g.W.Sink.state c.args.wire.now)
     (g.W.Sink.state c.make_call.new.wire) (g.S.Source.state c.args.source.now)
     (g.S.Source.state c.make_call.new.source)
-    (g.F.Sink.state c.args.kept.now) (g.K.Sink.state c.args.told.now)
+    (g.F.Sink.state c.args.kept.now) (g.K.Sink.state c.args.errors.now)
     c.make_call.ensures.wire c.make_call.ensures.source c.in-Err.ensures.broken_off

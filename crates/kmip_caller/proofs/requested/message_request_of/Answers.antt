@@ -1,4 +1,4 @@
-use Rattle.kmip_caller.proofs.Errands.{message_asks}
+use Rattle.kmip_caller.proofs.Asked.{message_asks}
 use Rattle.kmip_caller.proofs.requested.message_request_of.Goals as goal
 
 pub returns : goal.returns

@@ -1,5 +1,5 @@
 use Rattle.std.proofs.Common.{sym, ◌∙◌}
-use Rattle.kmip_caller.proofs.Errands.{none_without_id}
+use Rattle.kmip_caller.proofs.Asked.{none_without_id}
 use Rattle.kmip_caller.proofs.requested.operation_request_of.Goals as goal
 
 pub returns-in-None : goal.returns-in-None

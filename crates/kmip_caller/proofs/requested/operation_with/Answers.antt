@@ -1,4 +1,4 @@
-use Rattle.kmip_caller.proofs.Errands.{operation_asks, none_with_id}
+use Rattle.kmip_caller.proofs.Asked.{operation_asks, none_with_id}
 use Rattle.kmip_caller.proofs.requested.operation_with.Goals as goal
 
 pub returns-in_default : goal.returns-in_default

@@ -1,5 +1,5 @@
 use Rattle.std.proofs.Common.{sym, ◌∙◌}
-use Rattle.kmip_caller.proofs.Errands.{typed_asks}
+use Rattle.kmip_caller.proofs.Asked.{typed_asks}
 use Rattle.kmip_caller.proofs.requested.typed_request.Goals as goal
 
 pub returns : goal.returns

@@ -20,8 +20,8 @@ use Rattle.kmip_operations.proofs.Asked.{one_call, one_structure}
 use Rattle.kmip_tags.specs.Tags.{REQUEST_MESSAGE}
 use Rattle.kmip_caller.specs.Wire.{taken_at, IsOneAtMost}
 use Rattle.kmip_caller.specs.TreeWords.{TreeText, an_operation, a_message, tree_words, item_id}
-use Rattle.kmip_caller.specs.Exchange.{Errand, typed_errand, operation_errand, message_errand}
-use Rattle.kmip_caller.specs.Asked.{is_allowed, call_for, AsksTree, AsksFor, tree, typed, AsksForNone, errand_of, Requests}
+use Rattle.kmip_caller.specs.Exchange.{Exchange, typed_exchange, operation_exchange, message_exchange}
+use Rattle.kmip_caller.specs.Asked.{is_allowed, call_for, AsksTree, AsksFor, tree, typed, AsksForNone, exchange_of, Requests}
 use Rattle.kmip_caller.specs.declared.command.Order.{Order}
 use Rattle.kmip_caller.specs.declared.requested.Asked.{Asked}
 use Rattle.kmip_caller.specs.declared.requested.Asked.TheVariants as found
@@ -29,11 +29,11 @@ use Rattle.kmip_caller.proofs.Fronts.{same_message}
 
 -- ---- the bytes that are taken answer what all the bytes left do
 
-pub record IsReading (limit : Option ℕ) (errand : Errand) : Type 0 where
+pub record IsReading (limit : Option ℕ) (exchange : Exchange) : Type 0 where
   pub line : (rest bytes : List ℕ) → bytes ≡ take (taken_at rest limit) rest → IsOneAtMost limit bytes
-      → errand.line bytes ≡ errand.line rest
+      → exchange.line bytes ≡ exchange.line rest
   pub ending : (rest bytes : List ℕ) → bytes ≡ take (taken_at rest limit) rest → IsOneAtMost limit bytes
-      → errand.ending bytes ≡ errand.ending rest
+      → exchange.ending bytes ≡ exchange.ending rest
 
 same_by : {A X : Type 0} (reads : List ℕ → Result A Error) (limit : Option ℕ)
     (f : Result A Error → List ℕ → X) (rest bytes : List ℕ)
@@ -47,29 +47,29 @@ same_by reads limit f rest bytes is one =
     ∙ ap (λ (l : List ℕ). f (answer_by reads (message_at rest limit)) l)
     (ap (λ n. take n bytes) one ∙ take-length bytes ∙ is)
 
-pub errand_reading : (settings : Settings) (asked : Asked)
-    → IsReading settings.limit (errand_of settings asked)
-errand_reading settings (found.Typed call) = record {
+pub exchange_reading : (settings : Settings) (asked : Asked)
+    → IsReading settings.limit (exchange_of settings asked)
+exchange_reading settings (found.Typed call) = record {
   line = λ rest bytes is one. same_by (read_answer (operation_asked call)) settings.limit
       (λ answer first. line_with call (answer_about call answer first) first) rest bytes is one;
   ending = λ rest bytes is one. same_by (read_answer (operation_asked call)) settings.limit
       (ending_about call) rest bytes is one;
 }
-errand_reading settings (found.Operation call) = record {
+exchange_reading settings (found.Operation call) = record {
   line = λ rest bytes is one. same_by (identified_answer call.operation call.id) settings.limit
       (λ answer first. tree_line (answer_to (Some call.operation) answer first) first)
       rest bytes is one;
   ending = λ rest bytes is one. same_by (identified_answer call.operation call.id) settings.limit
       (tree_ending (Some call.operation) call.id) rest bytes is one;
 }
-errand_reading settings (found.Message message) = record {
+exchange_reading settings (found.Message message) = record {
   line = λ rest bytes is one. same_by whole_answer settings.limit
       (λ answer first. tree_line (answer_to None answer first) first) rest bytes is one;
   ending = λ rest bytes is one. same_by whole_answer settings.limit (tree_ending None None)
       rest bytes is one;
 }
 
--- ---- an order asks for one errand at most
+-- ---- an order asks for one exchange at most
 
 both_words : {G : Type 0} (order : Order) (text : TreeText) → tree_words order.words ≡ Some text
     → tree_words order.words ≡ None → G
@@ -85,18 +85,18 @@ same_text order a b first second = cc
 same_id : (given a b : Option (List ℕ)) → item_id given ≡ Some a → item_id given ≡ Some b → a ≡ b
 same_id given a b first second = cc
 
-tree_once : (settings : Settings) (text : TreeText) (a b : Errand) → AsksTree settings text a
+tree_once : (settings : Settings) (text : TreeText) (a b : Exchange) → AsksTree settings text a
     → AsksTree settings text b → a ≡ b
 tree_once settings (an_operation name version hex payload) a b (request, given, asks, by)
     (wanted, found_is, asked, done) =
     let P : Option (List ℕ) → Type 0 = λ i. Asks name version i payload wanted in
-    by ∙ ap (operation_errand settings)
+    by ∙ ap (operation_exchange settings)
     (one_call name version request.id payload request wanted asks
     (subst P (same_id hex wanted.id request.id found_is given) asked)) ∙ sym done
 tree_once settings (a_message text) a b (message, is, by) (wanted, are, done) =
-    by ∙ ap (message_errand settings) (one_structure REQUEST_MESSAGE text message wanted is are) ∙ sym done
+    by ∙ ap (message_exchange settings) (one_structure REQUEST_MESSAGE text message wanted is are) ∙ sym done
 
-pub asked_once : (order : Order) (a b : Errand) → AsksFor order a → AsksFor order b → a ≡ b
+pub asked_once : (order : Order) (a b : Exchange) → AsksFor order a → AsksFor order b → a ≡ b
 asked_once order a b (tree none text is asks) (tree also other are asked) =
     let P : TreeText → Type 0 = λ t. AsksTree order.settings t a in
     tree_once order.settings other a b (subst P (same_text order text other is are) asks) asked
@@ -105,7 +105,7 @@ asked_once order a b (tree none text is asks) (typed plain call found_is done) =
 asked_once order a b (typed plain call is by) (tree none text are asks) =
     both_words order text are plain
 asked_once order a b (typed plain call is by) (typed also other are done) =
-    by ∙ ap (typed_errand order.settings) (same_call order call other is are) ∙ sym done
+    by ∙ ap (typed_exchange order.settings) (same_call order call other is are) ∙ sym done
 
 -- ---- what the code finds
 
@@ -151,10 +151,10 @@ operation_asks order name version hex payload id call request unkept is given as
     }
 
 none_of_words : (settings : Settings) (name version : List ℕ) (hex : Option (List ℕ)) (payload : List ℕ)
-    (id : Option (List ℕ)) (errand : Errand) → item_id hex ≡ Some id
+    (id : Option (List ℕ)) (exchange : Exchange) → item_id hex ≡ Some id
     → ((request : TreeRequest) → Asks name version id payload request → ⊥)
-    → AsksTree settings (an_operation name version hex payload) errand → ⊥
-none_of_words settings name version hex payload id errand given none (request, found_is, asks, by) =
+    → AsksTree settings (an_operation name version hex payload) exchange → ⊥
+none_of_words settings name version hex payload id exchange given none (request, found_is, asks, by) =
     let P : Option (List ℕ) → Type 0 = λ i. Asks name version i payload request in
     none request (subst P (same_id hex request.id id found_is given) asks)
 
@@ -163,31 +163,31 @@ pub none_with_id : (order : Order) (name version : List ℕ) (hex : Option (List
     (id : Option (List ℕ)) → tree_words order.words ≡ Some (an_operation name version hex payload) →
     item_id hex ≡ Some id → ((request : TreeRequest) → Asks name version id payload request → ⊥)
     → AsksForNone order
-none_with_id order name version hex payload id is given none errand (tree unkept other are asks) =
-    let P : TreeText → Type 0 = λ t. AsksTree order.settings t errand in
-    none_of_words order.settings name version hex payload id errand given none
+none_with_id order name version hex payload id is given none exchange (tree unkept other are asks) =
+    let P : TreeText → Type 0 = λ t. AsksTree order.settings t exchange in
+    none_of_words order.settings name version hex payload id exchange given none
     (subst P (same_text order other (an_operation name version hex payload) are is) asks)
-none_with_id order name version hex payload id is given none errand (typed plain call found_is by) =
+none_with_id order name version hex payload id is given none exchange (typed plain call found_is by) =
     both_words order (an_operation name version hex payload) is plain
 
 id_clash : {G : Type 0} (hex id : Option (List ℕ)) → item_id hex ≡ Some id → item_id hex ≡ None → G
 id_clash hex id some none = absurd (cc)
 
 none_of_hex : (settings : Settings) (name version : List ℕ) (hex : Option (List ℕ)) (payload : List ℕ)
-    (errand : Errand) → item_id hex ≡ None
-    → AsksTree settings (an_operation name version hex payload) errand → ⊥
-none_of_hex settings name version hex payload errand none (request, found_is, asks, by) =
+    (exchange : Exchange) → item_id hex ≡ None
+    → AsksTree settings (an_operation name version hex payload) exchange → ⊥
+none_of_hex settings name version hex payload exchange none (request, found_is, asks, by) =
     id_clash hex request.id found_is none
 
 -- and where its Unique Batch Item ID is none
 pub none_without_id : (order : Order) (name version : List ℕ) (hex : Option (List ℕ)) (payload : List ℕ)
     → tree_words order.words ≡ Some (an_operation name version hex payload) → item_id hex ≡ None
     → AsksForNone order
-none_without_id order name version hex payload is none errand (tree unkept other are asks) =
-    let P : TreeText → Type 0 = λ t. AsksTree order.settings t errand in
-    none_of_hex order.settings name version hex payload errand none
+none_without_id order name version hex payload is none exchange (tree unkept other are asks) =
+    let P : TreeText → Type 0 = λ t. AsksTree order.settings t exchange in
+    none_of_hex order.settings name version hex payload exchange none
     (subst P (same_text order other (an_operation name version hex payload) are is) asks)
-none_without_id order name version hex payload is none errand (typed plain call found_is by) =
+none_without_id order name version hex payload is none exchange (typed plain call found_is by) =
     both_words order (an_operation name version hex payload) is plain
 
 pub message_asks : (order : Order) (text : List ℕ) (whole : Tree) (request : Option (List ℕ))
@@ -204,11 +204,11 @@ kept_clash order kept none = absurd (cc)
 -- a call whose payload or message is in JSON is not recorded
 pub none_kept : (order : Order) (text : TreeText) → is_some order.file ≡ true
     → tree_words order.words ≡ Some text → AsksForNone order
-none_kept order text kept is errand (tree none other are asks) = kept_clash order kept none
-none_kept order text kept is errand (typed plain call found_is by) = both_words order text is plain
+none_kept order text kept is exchange (tree none other are asks) = kept_clash order kept none
+none_kept order text kept is exchange (typed plain call found_is by) = both_words order text is plain
 
 -- what an order asks for is not nothing
 pub asked_clash : {G : Type 0} (order : Order) (asked : Asked) (request : Option (List ℕ))
     → Requests order asked request → AsksForNone order → G
 asked_clash order asked request asks none =
-    absurd (none (errand_of order.settings asked) asks.asks)
+    absurd (none (exchange_of order.settings asked) asks.asks)
