@@ -60,26 +60,26 @@ proved_build() { # FILE
 
 # The first of these that is missing, with its package.
 lacking() { # COMMAND:PACKAGE..
-    local it
-    for it in "$@"; do
-        type -P "${it%:*}" >/dev/null && continue
-        printf '%s (Debian: apt-get install %s)\n' "${it%:*}" "${it#*:}"
+    local tool
+    for tool in "$@"; do
+        type -P "${tool%:*}" >/dev/null && continue
+        printf '%s (Debian: apt-get install %s)\n' "${tool%:*}" "${tool#*:}"
         return
     done
 }
 
 # Begins to build what the clients stand on, both parts at once, in $run/kmip_call and $run/libkmip_c.a.
 begin_builds() {
-    local made left=$((until > SECONDS ? until - SECONDS : 1)) it kind file parts=(program:kmip_call:kmip_call)
+    local made left=$((until > SECONDS ? until - SECONDS : 1)) part kind file parts=(program:kmip_call:kmip_call)
     if [[ -n $built ]] || ! type -P rt >/dev/null; then return; fi
     [[ -n $no_library ]] || parts+=(library:kmip_c:libkmip_c.a)
     mkdir -p "$run/tmp"
-    for it in "${parts[@]}"; do
-        IFS=: read -r kind it file <<<"$it"
-        if made=$(proved_build "$top/crates/$it/out/$file"); then
+    for part in "${parts[@]}"; do
+        IFS=: read -r kind part file <<<"$part"
+        if made=$(proved_build "$top/crates/$part/out/$file"); then
             cp "$made" "$run/$file"
         else
-            TMPDIR=$run/tmp timeout "$left" "$python" "$top/tools/build.py" --unproved "$kind" "$it" "$run/$file" "$top" \
+            TMPDIR=$run/tmp timeout "$left" "$python" "$top/tools/build.py" --unproved "$kind" "$part" "$run/$file" "$top" \
                 >"$run/$kind.log" 2>&1 &
             builders[$kind]=$!
             started+=($!)
@@ -133,8 +133,8 @@ cases() {
             return
         fi
         clients=()
-        for it in "${all[@]}"; do
-            if [[ $it == shell ]]; then run_cases library 8 shell; else clients+=("$it"); fi
+        for who in "${all[@]}"; do
+            if [[ $who == shell ]]; then run_cases library 8 shell; else clients+=("$who"); fi
         done
     fi
     export KMIP_CALL=$built/kmip_call
@@ -143,8 +143,8 @@ cases() {
 
 # The client in Rust takes longest to build: that is done while the cases of the others run.
 rest_of_cases() {
-    local builder='' others=() it
-    for it in "${clients[@]}"; do [[ $it == rust ]] || others+=("$it"); done
+    local builder='' others=() who
+    for who in "${clients[@]}"; do [[ $who == rust ]] || others+=("$who"); done
     if ((${#others[@]} < ${#clients[@]})); then
         (clients=(rust) && build_clients && ((${#clients[@]} > 0)) && : >"$run/rust.is_built") &
         builder=$!

@@ -36,10 +36,10 @@ said=$run/said client=packages root=''
 
 # The first thing that is missing, as a reason to skip.
 lacking() {
-    local it
+    local tool
     if ((EUID != 0)); then echo 'there is no root'; fi
-    for it in gcc:gcc make:make readelf:binutils dpkg-deb:dpkg openssl:openssl pkg-config:pkgconf; do
-        type -P "${it%:*}" >/dev/null || echo "there is no ${it%:*} (Debian: apt-get install ${it#*:})"
+    for tool in gcc:gcc make:make readelf:binutils dpkg-deb:dpkg openssl:openssl pkg-config:pkgconf; do
+        type -P "${tool%:*}" >/dev/null || echo "there is no ${tool%:*} (Debian: apt-get install ${tool#*:})"
     done
     [[ -e /usr/include/openssl/ssl.h ]] || echo 'there is no libssl-dev'
     [[ -f $built/libmetsuwan.a ]] || echo "there is no $built/libmetsuwan.a: clients/build.sh makes it"
@@ -72,9 +72,9 @@ begin() { # NAME
 
 # A tool that the packages are said not to need.
 has_no_compiler() {
-    local it
-    for it in gcc cc make ld rt rattle cargo; do
-        ! within bash -c "type -P $it" || return
+    local tool
+    for tool in gcc cc make ld rt rattle cargo; do
+        ! within bash -c "type -P $tool" || return
     done >"$said" 2>&1
 }
 

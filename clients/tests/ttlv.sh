@@ -2,10 +2,10 @@
 # Sets `ttlv` to the program kmip_ttlv: that of $built, a proved one that is newer than all sources, or one that is compiled
 # now with no proof. Its status is not 0 where there is none, which is then said.
 find_ttlv() {
-    local it proved=$top/crates/kmip_ttlv/out/kmip_ttlv
+    local found proved=$top/crates/kmip_ttlv/out/kmip_ttlv
     if [[ -f $proved && -n $(find "$top/crates" -path '*/src/*' -newer "$proved" -print -quit) ]]; then proved=''; fi
-    for it in "$built/kmip_ttlv" "$proved" "$run/kmip_ttlv"; do
-        ttlv=$it
+    for found in "$built/kmip_ttlv" "$proved" "$run/kmip_ttlv"; do
+        ttlv=$found
         if [[ -x $ttlv ]]; then return; fi
     done
     if ! type -P rt >/dev/null; then

@@ -415,7 +415,7 @@ build_clients() {
 # end, as by a variable that is not set, has failed; so has a client that passed fewer checks than `least` says, unless it was
 # skipped, in part at least, for want of a tool, of time or of memory.
 count() { # FUNCTION
-    local passed failed statuses it
+    local passed failed statuses bound
     local excuse='(there is no |no temporary folder|.*(no time is left|for want of time|most likely for memory|is not built))'
     (
         started=() groups=()
@@ -428,10 +428,10 @@ count() { # FUNCTION
     if [[ ! -e $run/ended || ${statuses[*]} != '0 0' ]]; then
         printf 'FAILED  %s broke off: status %s\n' "$1" "${statuses[*]}" | tee -a "$run/log"
     fi
-    for it in ${least[@]+"${least[@]}"}; do
-        passed=$(grep -c "^ok  *${it%=*}: " "$run/log")
-        if ((passed < ${it#*=})) && ! grep -qE "^skipped (${it%=*}|all|the clients[^:]*): $excuse" "$run/log"; then
-            printf 'FAILED  %s: %d checks have passed, and at least %d should\n' "${it%=*}" "$passed" "${it#*=}" |
+    for bound in ${least[@]+"${least[@]}"}; do
+        passed=$(grep -c "^ok  *${bound%=*}: " "$run/log")
+        if ((passed < ${bound#*=})) && ! grep -qE "^skipped (${bound%=*}|all|the clients[^:]*): $excuse" "$run/log"; then
+            printf 'FAILED  %s: %d checks have passed, and at least %d should\n' "${bound%=*}" "$passed" "${bound#*=}" |
                 tee -a "$run/log"
         fi
     done

@@ -11,7 +11,7 @@ cp -r "$top/clients" "$top/crates.txt" "$top/HANDLES" "$copy"
 printf 'int memory(void) { return 1; }\n' >memory.c
 printf 'int kmip_request(void) { return 2; }\n' >library.c
 gcc -c memory.c library.c && ar rc "$kit/c/liblibc_c.a" memory.o && ar rc ready.a library.o
-while read -r it _; do mkdir -p "$copy/crates/${it%:}/src" "$copy/crates/${it%:}/must-fail"; done \
+while read -r crate _; do mkdir -p "$copy/crates/${crate%:}/src" "$copy/crates/${crate%:}/must-fail"; done \
     < <(grep '^[a-z]' "$copy/crates.txt")
 # `rt ci` of this kit takes all for proved, and notes it and the folders of the crates; it leaves what is built. So does
 # its `rattle`, for the library.
@@ -20,11 +20,11 @@ cat >"$kit/bin/rt" <<RT
 if [[ \$1 == doc ]]; then echo "$kit/START-HERE.md"; exit; fi
 [[ -d .git && -f HANDLES && \$* == ci ]] || exit 2
 ls -d crates/*/* >>"$work/asked"
-while IFS=' :' read -r it _; do
-    echo "\$it" >>"$work/asked"
-    mkdir "crates/\$it/out"
-    if [[ \$it == "\${BROKEN-}" ]]; then echo "rt: \$it NOT PROVED" && exit 1; fi
-    echo "rt: \$it is kept: it was proved"
+while IFS=' :' read -r crate _; do
+    echo "\$crate" >>"$work/asked"
+    mkdir "crates/\$crate/out"
+    if [[ \$crate == "\${BROKEN-}" ]]; then echo "rt: \$crate NOT PROVED" && exit 1; fi
+    echo "rt: \$crate is kept: it was proved"
 done < <(grep '^[a-z]' crates.txt)
 if [[ -d crates/kmip_call ]]; then
     printf '#!/bin/bash\necho kmip_call of the copy\n' >crates/kmip_call/out/kmip_call
@@ -59,7 +59,7 @@ wanted=$(sed -n 's/^kmip_c staticlib: *//p' "$copy/crates.txt")
 [[ $(tail -1 asked) == *" --crate-type staticlib "* ]]
 verdict 'the library is built last'
 missing=''
-for it in $wanted; do [[ $(tail -1 asked) == *" $it="*"/crates/$it/out/rlib/$it.rlib "* ]] || missing+=" $it"; done
+for crate in $wanted; do [[ $(tail -1 asked) == *" $crate="*"/crates/$crate/out/rlib/$crate.rlib "* ]] || missing+=" $crate"; done
 [[ -z $missing && -n $wanted ]]
 verdict 'over the crates that rt ci has passed'
 grep -qx kmip_c asked && grep -qx kmip_call asked && ! grep -qE '^kmip_(run|web|server)|/must-fail' asked
@@ -68,9 +68,9 @@ verdict 'which are those that are wanted, without their edits'
 verdict 'nothing is written into the checkout'
 [[ $("the folder/kmip_call") == 'kmip_call of the copy' && -e $(echo "the folder/"lib*.a) && -e $(echo "the folder/"*.h) ]]
 verdict 'the folder has the program, the library and its header'
-for it in "the folder/"lib*.a "the folder/"lib*.so; do
-    nm -g "$it" 2>"$said" | grep -q ' T kmip_request$'
-    verdict "${it##*.}: the library has its calls"
+for file in "the folder/"lib*.a "the folder/"lib*.so; do
+    nm -g "$file" 2>"$said" | grep -q ' T kmip_request$'
+    verdict "${file##*.}: the library has its calls"
 done
 [[ -e $(echo "the folder/"lib*.a) && -e $(echo "the folder/"lib*.so) ]]
 verdict 'it is there static and shared'
@@ -121,7 +121,7 @@ built_is 'a file that is no library' 1 --library second/none.a --program second/
 [[ $(<second/none.a) == 'no library' ]]
 verdict 'stays where it is'
 mkdir without
-for it in bash dirname sed realpath mkdir mktemp cp mv rm cat tail ar ld as cc gcc make objcopy; do ln -s "$(type -P "$it")" without; done
+for tool in bash dirname sed realpath mkdir mktemp cp mv rm cat tail ar ld as cc gcc make objcopy; do ln -s "$(type -P "$tool")" without; done
 PATH=$work/without "$copy/clients/build.sh" --library ready.a --program second/kmip_call fourth >"$said" 2>&1
 verdict 'where nothing is built there is no need of rt'
 built_is 'a program that is not there' 1 --program none fifth
@@ -133,7 +133,7 @@ says 'it says what is made' 'FOLDER/lib[a-z]*\.so'
 [[ ! -e fifth && ! -e sixth ]]
 verdict 'nothing is made where nothing is built'
 mkdir few
-for it in bash dirname awk sed realpath mkdir; do ln -s "$(type -P "$it")" few; done
+for tool in bash dirname awk sed realpath mkdir; do ln -s "$(type -P "$tool")" few; done
 PATH=$work/few "$copy/clients/build.sh" seventh >"$said" 2>&1
 (($? == 1))
 verdict 'without its tools it ends'

@@ -1,9 +1,9 @@
 # shellcheck shell=bash
 # clients/install.sh and clients/release.sh: what they leave, in an empty folder, and what is made with it there.
 # needs: library
-for it in gcc:gcc make:make nm:binutils dpkg-deb:dpkg; do
-    type -P "${it%:*}" >/dev/null && continue
-    printf 'skipped shell: packages are not made: there is no %s (Debian: apt-get install %s)\n' "${it%:*}" "${it#*:}"
+for tool in gcc:gcc make:make nm:binutils dpkg-deb:dpkg; do
+    type -P "${tool%:*}" >/dev/null && continue
+    printf 'skipped shell: packages are not made: there is no %s (Debian: apt-get install %s)\n' "${tool%:*}" "${tool#*:}"
     return
 done
 if ! printf '#include <openssl/ssl.h>\n' | gcc -E -x c - >"$said" 2>&1; then
@@ -24,10 +24,10 @@ in_place --built whole --prefix /opt/kmip --destdir 'a stage'
 verdict 'install.sh, below a folder with a space'
 stage="a stage/opt/kmip"
 missing=''
-for it in bin/{kmip_call,kmip_ttlv,kmip.sh,kmip_keys.sh} lib/libmetsuwan{,_tls}.{a,so,so.1} include/metsuwan{,_tls}.h \
+for file in bin/{kmip_call,kmip_ttlv,kmip.sh,kmip_keys.sh} lib/libmetsuwan{,_tls}.{a,so,so.1} include/metsuwan{,_tls}.h \
     lib/pkgconfig/metsuwan{,_tls}.pc lib/ossl-modules/metsuwan.so share/man/man1/{kmip_call,kmip.sh,kmip_ttlv}.1 \
     share/bash-completion/completions/{kmip_call,kmip,kmip_field,kmip_open} share/metsuwan/kmip.html share/doc/metsuwan/LICENSE; do
-    [[ -e $stage/$it ]] || missing+=" $it"
+    [[ -e $stage/$file ]] || missing+=" $file"
 done
 printf 'missing:%s\n' "$missing" >>"$said"
 [[ -z $missing ]]

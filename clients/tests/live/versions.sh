@@ -14,7 +14,7 @@ verdict "kmip_call --version says $version"
 has_version clients/rust/Cargo.toml 's/^version *= *"(.*)"$/\1/p'
 has_version clients/python/metsuwan/__init__.py "s/^__version__ = '(.*)'\$/\1/p"
 has_version clients/c/Makefile 's/^VERSION *:?= *(.*)$/\1/p'
-for it in clients/python clients/rust; do
-    cmp "$top/LICENSE" "$top/$it/LICENSE" >"$said" 2>&1
-    verdict "$it has the licence of the repository"
+for folder in clients/python clients/rust; do
+    cmp "$top/LICENSE" "$top/$folder/LICENSE" >"$said" 2>&1
+    verdict "$folder has the licence of the repository"
 done

@@ -47,8 +47,8 @@ while (($#)); do
 done
 ((${#browsers[@]})) || browsers=(chromium firefox)
 
-for it in 'rt the Rattle toolchain' 'node nodejs' 'cc gcc' 'python3 python3'; do
-    type -P "${it%% *}" >/dev/null || give_up "there is no ${it%% *} (${it#* })"
+for tool in 'rt the Rattle toolchain' 'node nodejs' 'cc gcc' 'python3 python3'; do
+    type -P "${tool%% *}" >/dev/null || give_up "there is no ${tool%% *} (${tool#* })"
 done
 options=()
 if ! node -e 'process.exit(typeof WebSocket === "function" ? 0 : 1)'; then
@@ -79,17 +79,17 @@ native() {
 native || give_up 'no native program'
 
 status=0
-for it in "${browsers[@]}"; do
+for browser in "${browsers[@]}"; do
     program=''
-    for name in "$it" "$it-esr"; do [[ -n $program ]] || program=$(type -P "$name"); done
+    for name in "$browser" "$browser-esr"; do [[ -n $program ]] || program=$(type -P "$name"); done
     if [[ -z $program ]]; then
-        package=$it
-        [[ $it == firefox ]] && package=firefox-esr
-        printf 'skipped %s: it is not here (Debian: apt-get install %s)\n' "$it" "$package"
+        package=$browser
+        [[ $browser == firefox ]] && package=firefox-esr
+        printf 'skipped %s: it is not here (Debian: apt-get install %s)\n' "$browser" "$package"
         continue
     fi
-    words=("$it" "$program" "$work/page" "$proved")
-    [[ $it == chromium && -n $shots ]] && words+=("$shots")
+    words=("$browser" "$program" "$work/page" "$proved")
+    [[ $browser == chromium && -n $shots ]] && words+=("$shots")
     node ${options[@]+"${options[@]}"} "$here/check.js" "${words[@]}" || status=1
 done
 exit $status

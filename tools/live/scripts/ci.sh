@@ -5,7 +5,7 @@ cp "$top/.ci/run" "a clone/.ci"
 printf '#!/bin/bash\necho "$* in $PWD"; exit "$PROOFS"\n' >bin/rt
 printf '#!/bin/bash\necho "the clients $*"; exit "$CLIENTS"\n' >'a clone/tools/check_clients.sh'
 printf '#!/bin/bash\necho the counts; exit "$COUNTS"\n' >'a clone/bench/make_counts.sh'
-for it in tables/generate.py tools/check_names.py; do printf '#!/bin/bash\necho the tables\n' >"a clone/$it"; done
+for script in tables/generate.py tools/check_names.py; do printf '#!/bin/bash\necho the tables\n' >"a clone/$script"; done
 chmod +x bin/rt 'a clone/tools/'* 'a clone/tables/'* 'a clone/bench/'*
 run_is() { # WHAT STATUS PROOFS COUNTS CLIENTS
     (cd / && PATH="$work/bin:$PATH" PROOFS=$3 COUNTS=$4 CLIENTS=$5 "$work/a clone/.ci/run") >"$said" 2>&1

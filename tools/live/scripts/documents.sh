@@ -53,14 +53,14 @@ completes 'kmip operation MAC' MAC MACVerify && completes 'kmip operation MAC ' 
     completes 'kmip locate w' where && completes 'kmip de' destroy && completes 'kmip p' pem && completes 'kmip destroy d' && completes 'kmip_field sig' signature_data &&
     completes 'kmip_field signature_data si' sign && completes 'kmip_open localhost:5696 ano' another && completes 'kmip_open a'
 verdict 'completion of the functions'
-for it in "$top"/clients/man/*.1; do
+for manual in "$top"/clients/man/*.1; do
     if type -P mandoc >/dev/null; then
-        mandoc -T lint -W warning "$it" >"$said" 2>&1
-        verdict "mandoc finds nothing in ${it##*/}"
+        mandoc -T lint -W warning "$manual" >"$said" 2>&1
+        verdict "mandoc finds nothing in ${manual##*/}"
     fi
     if type -P man >/dev/null; then
-        LC_ALL=C.UTF-8 man --warnings -l "$it" 2>"$said" >"$work/page.txt"
+        LC_ALL=C.UTF-8 man --warnings -l "$manual" 2>"$said" >"$work/page.txt"
         [[ ! -s $said ]] && grep -q 'EXIT STATUS' "$work/page.txt"
-        verdict "man shows ${it##*/} with no warning"
+        verdict "man shows ${manual##*/} with no warning"
     fi
 done

@@ -17,15 +17,15 @@ export PKG_CONFIG_ALLOW_SYSTEM_LIBS=1 PKG_CONFIG_ALLOW_SYSTEM_CFLAGS=1 LD_LIBRAR
 names_of() { # LIBRARY: what can be linked with, on one line
     nm -D --defined-only "$lib/$1" | awk '{ print $3 }' | sort | xargs
 }
-for it in libmetsuwan libmetsuwan_tls; do
-    soname=$(readelf -d "$lib/$it.so" | sed -n 's/.*soname: \[\(.*\)\]/\1/p')
-    [[ $soname == "$it.so.1" && -e $lib/$soname && -e $lib/$it.a ]]
-    verdict "$it has a SONAME, and is there by it"
-    readelf -d "$lib/$it.so" | grep -q 'Flags: NOW'
-    verdict "$it has its functions bound at the start"
+for library in libmetsuwan libmetsuwan_tls; do
+    soname=$(readelf -d "$lib/$library.so" | sed -n 's/.*soname: \[\(.*\)\]/\1/p')
+    [[ $soname == "$library.so.1" && -e $lib/$soname && -e $lib/$library.a ]]
+    verdict "$library has a SONAME, and is there by it"
+    readelf -d "$lib/$library.so" | grep -q 'Flags: NOW'
+    verdict "$library has its functions bound at the start"
     # A thread that searches for a host may run longer than anybody needs the library.
-    readelf -d "$lib/$it.so" | grep -q 'Flags:.*NODELETE'
-    verdict "$it stays in memory after dlclose"
+    readelf -d "$lib/$library.so" | grep -q 'Flags:.*NODELETE'
+    verdict "$library stays in memory after dlclose"
 done
 [[ $(names_of libmetsuwan.so | sed 's/kmip_//g') == \
     'answer contents_len operation_answer operation_refusal operation_request refusal request value version' ]]

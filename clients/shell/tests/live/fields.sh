@@ -13,7 +13,7 @@ says 'is said by jq' '^jq: '
 says 'before the call' '^\{"error":"GrammarError","text":"jq does not read the field.*nothing was sent"\}$'
 says_not 'so that no key is made that nobody knows' 'private_key'
 says 'and the connection is good' '^\{"answer":'
-script_is 'no jq' 2 'open; mkdir "$work/no jq"; for it in bash flock timeout openssl; do ln -s "$(type -P "$it")" "$work/no jq"; done
+script_is 'no jq' 2 'open; mkdir "$work/no jq"; for tool in bash flock timeout openssl; do ln -s "$(type -P "$tool")" "$work/no jq"; done
     PATH=$work/no\ jq; kmip_field private_key create-rsa 2048 a b; (($? == 2)) || exit; kmip pem k'
 says 'is said before the call' '^\{"error":"GrammarError","text":"there is no jq .*nothing was sent"\}$'
 for field in privat_key 'private_key | keys' 'private_key | empty' 'private_key | halt' 'private_key | halt_error(0)'; do

@@ -2,9 +2,9 @@
 # The Unique Batch Item IDs of operations: eight random bytes, by which the answer is known.
 export payload='{"tag":"RequestPayload","value":[{"tag":"UniqueIdentifier","type":"TextString","value":"k"}]}'
 answered() { # WHAT REGEX..: the answers have these IDs, which the server gives as data
-    local line=0 it
+    local line=0 wanted
     mapfile -t ids < <(sed -nE 's/.*"tag":"Data","type":"ByteString","value":"([0-9A-F]*)".*/\1/p' "$said")
-    for it in "${@:2}"; do [[ ${ids[line++]-} =~ ^$it$ ]] || break; done
+    for wanted in "${@:2}"; do [[ ${ids[line++]-} =~ ^$wanted$ ]] || break; done
     ((line == $# - 1 && ${#ids[@]} == line)) && [[ ${ids[line - 1]} =~ ^${!#}$ ]]
     verdict "$1"
 }

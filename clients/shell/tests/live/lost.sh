@@ -56,7 +56,7 @@ says 'a full TMPDIR: nor by the next call' '^second: 3$'
 
 # Programs that the script begins have the connection; with kmip_without they have not.
 fake good
-script 'open; has_it() { local it; for it in /proc/self/fd/*; do [[ ! $it -ef $1 ]] || return 0; done; return 1; }
+script 'open; has_it() { local stream; for stream in /proc/self/fd/*; do [[ ! $stream -ef $1 ]] || return 0; done; return 1; }
     out=/proc/$$/fd/$KMIP_OUT; export -f has_it
     bash -c "has_it $out" && echo "with it"
     kmip_without bash -c "has_it $out" || echo "without it"

@@ -25,7 +25,7 @@ script_is 'KMIP_CALL with words before its own' 0 'KMIP_CALL="env -u PATH $KMIP_
 script_is 'no kmip_call' 3 'unset KMIP_CALL; PATH=/usr/bin:/bin; open'
 says 'what is missing is said' 'clients/build.sh'
 script_is 'a KMIP_CALL that cannot be run' 3 'open; KMIP_CALL=/dev/null; kmip query'
-script_is 'no openssl' 3 'mkdir "$work/bin"; for it in bash flock grep timeout mktemp mkfifo sleep; do ln -s "$(type -P $it)" "$work/bin"; done; PATH=$work/bin; open'
+script_is 'no openssl' 3 'mkdir "$work/bin"; for tool in bash flock grep timeout mktemp mkfifo sleep; do ln -s "$(type -P $tool)" "$work/bin"; done; PATH=$work/bin; open'
 says 'which is said' 'openssl'
 script_is 'an openssl that is too old' 3 'mkdir "$work/old"; printf "#!/bin/bash\necho OpenSSL 1.1.1w\n" >"$work/old/openssl"; chmod +x "$work/old/openssl"; PATH=$work/old:$PATH; open'
 says 'which is said' 'OpenSSL 1.1.1w is too old'

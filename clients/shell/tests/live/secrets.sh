@@ -29,7 +29,7 @@ fake held
 export here_pid=$$
 script 'export KMIP_USER=alice KMIP_PASSWORD=geheim2 KMIP_PASSPHRASE=geheim1; open; kmip sign "$held" 41 & calling
     ps -eo args | grep -v grep >words
-    environment() { local it; for it in $1; do tr "\0" "\n" <"/proc/$it/environ" || exit; done; }
+    environment() { local process; for process in $1; do tr "\0" "\n" <"/proc/$process/environ" || exit; done; }
     grep -c "kmip_call .* $held 41$" words | sed "s/^/calls /"
     grep -c "geheim[12]" words | sed "s/^/words /"
     environment "$KMIP_PID" >openssl; grep -c "^KMIP_USER=alice$" openssl | sed "s/^/user /"
