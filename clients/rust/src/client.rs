@@ -143,7 +143,7 @@ impl<T: Read + Write> ClientBuilder<T> {
 
 /// What `Debug` shows of a credential: the user alone.
 fn user_of(credential: &Option<Credential>) -> Option<&str> {
-    credential.as_ref().map(|it| it.user.as_str())
+    credential.as_ref().map(|credential| credential.user.as_str())
 }
 
 impl<T> Debug for ClientBuilder<T> {
@@ -311,7 +311,7 @@ impl<T: Read + Write> Client<T> {
             let name = format!("a batch of {}", calls.len());
             wire.tell_end(call, &name, responses.as_ref().err(), (request.len(), read));
             let answers: Vec<_> = calls.iter().zip(responses?).map(answer_of_batch).collect();
-            if answers.iter().any(|it| matches!(it, Err(error) if error.is_lost())) {
+            if answers.iter().any(|answer| matches!(answer, Err(error) if error.is_lost())) {
                 wire.stream = None;
             }
             Ok(answers)
@@ -319,7 +319,9 @@ impl<T: Read + Write> Client<T> {
     }
 
     pub(crate) fn credential(&self) -> Option<(&str, &str)> {
-        self.credential.as_ref().map(|it| (it.user.as_str(), it.password.as_str()))
+        self.credential
+            .as_ref()
+            .map(|credential| (credential.user.as_str(), credential.password.as_str()))
     }
 }
 

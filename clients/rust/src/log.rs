@@ -74,7 +74,7 @@ impl Log {
         text: &str,
     ) {
         let Some(listener) = &mut self.listener else { return };
-        let server = self.server.as_deref().map_or(String::new(), |it| format!("{it}: "));
+        let server = self.server.as_deref().map_or(String::new(), |name| format!("{name}: "));
         listener(&Event {
             kind,
             operation: call.operation,

@@ -19,7 +19,7 @@ const SIGN: u32 = 0x21;
 type Seen = Arc<Mutex<Vec<(EventKind, String, Option<&'static str>, String)>>>;
 
 fn kinds(seen: &Seen) -> Vec<EventKind> {
-    seen.lock().unwrap().iter().map(|it| it.0).collect()
+    seen.lock().unwrap().iter().map(|event| event.0).collect()
 }
 
 fn keep(seen: &Seen) -> impl FnMut(&Event<'_>) + Send + 'static {
@@ -34,7 +34,8 @@ fn keep(seen: &Seen) -> impl FnMut(&Event<'_>) + Send + 'static {
 /// A client whose streams do these one after the other.
 fn client(streams: &[&[Does]]) -> (Client<Script>, Sent, Seen) {
     let (sent, seen) = (Sent::default(), Seen::default());
-    let mut scripts: VecDeque<_> = streams.iter().map(|it| Script::new(it, &sent)).collect();
+    let mut scripts: VecDeque<_> =
+        streams.iter().map(|stream| Script::new(stream, &sent)).collect();
     let first = scripts.pop_front().unwrap();
     let builder = ClientBuilder::new(first).with_log(keep(&seen)).with_reconnect(move || {
         // As a stream that is asked for a query, and has none.
@@ -214,7 +215,7 @@ fn the_log_tells_of_each_call_and_shows_no_value() {
     said(1, "activate", Some("ItemNotFound"), "activate: status 1, ");
     said(2, "Encrypt", None, "Encrypt: status 0, ");
     said(seen.len() - 1, "query", Some("ResponseReadError"), "query: ResponseReadError, ");
-    let all: String = seen.iter().map(|it| format!("{it:?}")).collect();
+    let all: String = seen.iter().map(|event| format!("{event:?}")).collect();
     for secret in ["the key", "the%20key", "the data", "signature"] {
         assert!(!all.contains(secret), "{all}");
     }

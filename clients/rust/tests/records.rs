@@ -50,8 +50,8 @@ fn a_call_is_answered_again() {
     // (That of the operation has no ID, but in its response.)
     let [word, request, answer] = words(&seen);
     assert_eq!((word.as_str(), &request), ("raw", &asks_for("12")));
-    let digits = answer.as_bytes().chunks(2).map(|it| std::str::from_utf8(it).unwrap());
-    let answer: Vec<u8> = digits.map(|it| u8::from_str_radix(it, 16).unwrap()).collect();
+    let digits = answer.as_bytes().chunks(2).map(|pair| std::str::from_utf8(pair).unwrap());
+    let answer: Vec<u8> = digits.map(|pair| u8::from_str_radix(pair, 16).unwrap()).collect();
     assert_eq!(answer.len(), response(0x12, &[identifier("k")]).len() + 16);
     let (status, _) = library::answer(&format!("raw {request}"), &answer);
     assert_eq!(status, library::Status::Answered);
