@@ -23,7 +23,7 @@ fn port_of(name: &str) -> u16 {
     let path = std::env::var_os("METSUWAN_FAKES").expect("METSUWAN_FAKES");
     let ports = std::fs::read_to_string(path).unwrap();
     let mut found = ports.lines().filter_map(|line| line.split_once(' '));
-    let (_, port) = found.find(|(it, _)| *it == name).expect("a fake of this name");
+    let (_, port) = found.find(|(fake, _)| *fake == name).expect("a fake of this name");
     port.parse().unwrap()
 }
 
@@ -114,7 +114,7 @@ fn client_in_time(timeout: Duration) -> Result<TlsClient> {
 #[test]
 #[ignore = "it needs the fake servers"]
 fn each_call_has_its_own_deadline() {
-    let in_time = |it| Some((it, client_in_time(Duration::from_secs(it)).ok()?));
+    let in_time = |seconds| Some((seconds, client_in_time(Duration::from_secs(seconds)).ok()?));
     let (seconds, client) = [2, 10, 40].into_iter().find_map(in_time).expect("one that is in time");
     let started = Instant::now();
     let error = client.sign("never", b"x").unwrap_err();
@@ -133,9 +133,10 @@ fn a_flood_of_session_tickets_ends_with_the_deadline() {
     let in_time = |fake: &str, seconds: u64| {
         let connector = connector(fake, "localhost", "client");
         let client = connector.with_timeout(Some(Duration::from_secs(seconds))).connect();
-        client.ok().map(|it| it.build())
+        client.ok().map(|builder| builder.build())
     };
-    let open = |fake: &str| [2, 10, 40].into_iter().find_map(|it| in_time(fake, it)).unwrap();
+    let open =
+        |fake: &str| [2, 10, 40].into_iter().find_map(|seconds| in_time(fake, seconds)).unwrap();
     let error = open("tickets").query().unwrap_err();
     assert_eq!(error.details().io_kind(), Some(ErrorKind::TimedOut), "{error}");
     let client = open("tickets_after");
@@ -168,7 +169,10 @@ fn tls_that_the_caller_has_set_up() {
     let client = open("certificate", None).unwrap().into_builder().build();
     assert_eq!(client.query().unwrap().vendor_identification.as_deref(), Some("alice"));
     let error = open("other/server", None).unwrap_err();
-    assert!(matches!(&error, Error::ConnectError(it) if it.text().contains("issuer")), "{error}");
+    assert!(
+        matches!(&error, Error::ConnectError(details) if details.text().contains("issuer")),
+        "{error}"
+    );
     let error = open("unanswered", Some(Duration::from_secs(1))).unwrap_err();
     assert_eq!(error.details().io_kind(), Some(ErrorKind::TimedOut));
     let client = open("two", Some(LONG)).unwrap().into_builder().build();
@@ -272,7 +276,7 @@ fn a_host_is_a_name_or_an_address() {
 fn settings_that_are_missing() {
     let certificate = folder().join("client.pem");
     let key = folder().join("client.key");
-    let fails = |it: TlsConnector| it.connect().map(drop).unwrap_err().to_string();
+    let fails = |connector: TlsConnector| connector.connect().map(drop).unwrap_err().to_string();
     let bare = TlsConnector::new("localhost", port_of("good"));
     assert_eq!(fails(bare.clone()), "ConfigurationError: certificate is not given");
     let one = bare.with_certificate(certificate, key);
@@ -283,7 +287,9 @@ fn settings_that_are_missing() {
 #[ignore = "it needs the fake servers"]
 fn an_encrypted_key() {
     let connector = connector("certificate", "localhost", "encrypted");
-    let with = |it: TlsConnector| it.connect().map(|it| it.build().query().unwrap());
+    let with = |connector: TlsConnector| {
+        connector.connect().map(|connector| connector.build().query().unwrap())
+    };
     let server = with(connector.clone().with_passphrase("geheim & co")).unwrap();
     assert_eq!(server.vendor_identification.as_deref(), Some("alice"));
     let long = "x".repeat(100_000);
@@ -326,7 +332,7 @@ fn where_nothing_was_sent_the_call_is_made_again() {
         client.activate_key("k").unwrap();
     }
     let seen = seen.lock().unwrap();
-    let kinds: Vec<_> = seen.iter().map(|it| it.0).collect();
+    let kinds: Vec<_> = seen.iter().map(|event| event.0).collect();
     assert_eq!(kinds, [Call, Repeated, Reopened, Call, Repeated, Reopened, Call]);
     let server = format!("localhost:{}: ", port_of("end_after"));
     let wanted = format!("{server}end of input; nothing was sent: the call is made again");
@@ -366,7 +372,7 @@ fn several_calls_in_one_message() {
     batch.call("get", &[Word::Text("PublicKey.EC")]).unwrap();
     let answers = batch.send().unwrap();
     let (good, keys) = (self::client("good"), self::client("transparent"));
-    let json = |it: &Result<metsuwan::Answer>| it.as_ref().unwrap().json().clone();
+    let json = |answer: &Result<metsuwan::Answer>| answer.as_ref().unwrap().json().clone();
     assert_eq!(json(&answers[0]), json(&good.call("query", &[])));
     assert_eq!(json(&answers[1]), json(&good.call("sign", &[Word::Text("k"), Word::Bytes(b"x")])));
     let archived = answers[2].as_ref().unwrap().tree();
@@ -409,8 +415,10 @@ fn responses_that_are_none_to_a_batch() {
     for fake in ["rubbish", "half", "batch_two", "batch_none", "other_operation", "echo", "deep"] {
         let (answers, client) = send(fake, &["a", "k"]);
         // Where it has an item for each of them, each is lost.
-        let is_lost = |it: &Error| it.is_lost();
-        let each = |it: Vec<Result<_>>| it.iter().all(|it| it.as_ref().is_err_and(is_lost));
+        let is_lost = |error: &Error| error.is_lost();
+        let each = |answers: Vec<Result<_>>| {
+            answers.iter().all(|answer| answer.as_ref().is_err_and(is_lost))
+        };
         assert!(answers.map_or_else(|error| is_lost(&error), each), "{fake}");
         assert!(!client.is_open(), "{fake}");
     }

@@ -80,7 +80,7 @@ impl Key<'_> {
         let is_same = by_words.key_material()? == self.material;
         check(by_words.tree.is_some() && is_same, &what("is got by the call of words"));
         let names = client.attributes(key)?;
-        let is_there = names.iter().any(|it| it.name == "Cryptographic Algorithm");
+        let is_there = names.iter().any(|attribute| attribute.name == "Cryptographic Algorithm");
         check(is_there, &what("has its attributes by that call"));
         Ok(material.to_vec())
     }
@@ -265,7 +265,7 @@ fn main() -> ExitCode {
         Ok(()) => ExitCode::SUCCESS,
         Err(error) => {
             eprintln!("{error}");
-            ExitCode::from(error.downcast_ref().map_or(1, |it: &Failure| it.1))
+            ExitCode::from(error.downcast_ref().map_or(1, |failure: &Failure| failure.1))
         }
     }
 }
