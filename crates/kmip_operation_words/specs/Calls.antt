@@ -1,5 +1,5 @@
 -- What the words of a call ask for.
-use Rattle.std.specs.Prelude.{ℕ, nat_le, List, [], ◌∷◌, ◌++◌, length, drop, map, Bool, true, false, ◌&&◌, Option, Some, None, if◌then◌else◌, bytes_eq, ◌×◌}
+use Rattle.std.specs.Prelude.{ℕ, nat_le, List, [], ◌∷◌, ◌++◌, length, drop, map, Bool, true, false, ◌&&◌, Option, Some, None, if◌then◌else◌, bytes_eq}
 use Rattle.std.specs.List.{find}
 use Rattle.std.specs.Option.{option_map, option_and_then}
 use Rattle.kmip_tags.specs.Tags.{REQUEST_PAYLOAD}
@@ -30,12 +30,14 @@ abbrev pub all_option_names : List Part → List (List ℕ)
 all_option_names [] = []
 all_option_names (part ∷ parts) = option_names part.fields ++ all_option_names parts
 
--- whether these words may stand behind those of a row: its options, in any order, each at most once;
--- or any words
+-- whether words may stand behind those of a row: its options, by these names, in any order, each at
+-- most once; or any words
+abbrev pub may_stand : Rest → List (List ℕ) → List (List ℕ) → Bool
+may_stand rests.Options names words = are_options names words
+may_stand rests.Words names words = true
+
 abbrev pub may_stand_behind : Row → List (List ℕ) → Bool
-may_stand_behind row words =
-    elim row.rest
-    [ rests.Options ↦ are_options (all_option_names row.parts) words | rests.Words ↦ true ]
+may_stand_behind row words = may_stand row.rest (all_option_names row.parts) words
 
 -- the words of a call, behind those of its row
 abbrev pub words_of : Row → List (List ℕ) → Words

@@ -1,5 +1,5 @@
 -- The items that words give.
-use Rattle.std.specs.Prelude.{ℕ, ◌<◌, ◌^◌, nat_lt, Bool, List, [], ◌∷◌, ◌++◌, map, codes, Option, Some, None, if◌then◌else◌, slice_get}
+use Rattle.std.specs.Prelude.{ℕ, ◌^◌, nat_lt, Bool, List, [], ◌∷◌, ◌++◌, codes, Option, Some, None, if◌then◌else◌, slice_get}
 use Rattle.std.specs.Option.{option_map, option_and_then}
 use Rattle.kmip_tags.specs.Tags as tags
 use Rattle.kmip_wire.specs.Tree.{Tree, Trees, scalar, structure, none, more, trees_of, text_string, enumeration}

@@ -4,3 +4,4 @@ pub mod Table
 pub mod Values
 pub mod Items
 pub mod Calls
+pub mod Laws

@@ -122,14 +122,18 @@ fn push_words(
 {
     match words {
         [] => Ok(true),
-        [first, rest @ ..] => Ok(push_word(alloc, field, first.as_str(), out)?
-            && push_words(alloc, field, rest, out)?),
+        [first, rest @ ..] => {
+            if !push_word(alloc, field, first.as_str(), out)? {
+                return Ok(false);
+            }
+            push_words(alloc, field, rest, out)
+        }
     }
 }
 
 /// Adds the items of a field. `words` are those of the call, and `behind` those behind the words of
 /// its row. `false` where a word is missing, or is none of the field's kind.
-fn push_field(
+pub fn push_field(
     alloc: Global,
     field: &FieldRow,
     words: &[Text],
@@ -176,8 +180,12 @@ fn push_fields(
 {
     match fields {
         [] => Ok(true),
-        [first, rest @ ..] => Ok(push_field(alloc, first, words, behind, out)?
-            && push_fields(alloc, rest, words, behind, out)?),
+        [first, rest @ ..] => {
+            if !push_field(alloc, first, words, behind, out)? {
+                return Ok(false);
+            }
+            push_fields(alloc, rest, words, behind, out)
+        }
     }
 }
 
@@ -233,7 +241,11 @@ pub fn push_parts(
 {
     match parts {
         [] => Ok(true),
-        [first, rest @ ..] => Ok(push_part(alloc, first, words, behind, out)?
-            && push_parts(alloc, rest, words, behind, out)?),
+        [first, rest @ ..] => {
+            if !push_part(alloc, first, words, behind, out)? {
+                return Ok(false);
+            }
+            push_parts(alloc, rest, words, behind, out)
+        }
     }
 }

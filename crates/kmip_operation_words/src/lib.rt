@@ -10,10 +10,14 @@
 mod calls;
 mod fields;
 mod items;
+mod laws;
+mod refusals;
 mod rows;
 mod table;
 mod values;
 
 pub use calls::{operation_row, operation_words};
+pub use laws::{call_names, payloads};
+pub use refusals::{operation_refusal, push_operation_form};
 pub use rows::{FieldRow, Form, Kind, OperationRow, PartRow, Place, Rest};
 pub use table::operation_calls;

@@ -1,5 +1,5 @@
-//! Words that are no call of the table.
-use crate::support::asked;
+//! Words that are no call of the table, and why.
+use crate::support::{asked, refusal};
 use std::alloc::Global;
 use std::process::Abort;
 
@@ -53,5 +53,52 @@ fn words_that_are_no_call(rt: &impl Abort, alloc: Global) {
     for line in NO_CALLS {
         let made = asked(rt, alloc, line);
         assert!(rt; made.is_none(), "{line}");
+        assert!(rt; refusal(rt, alloc, line).is_some(), "{line}");
     }
+}
+
+struct Sentence {
+    words: &'static str,
+    refusal: &'static str,
+}
+
+const SENTENCES: &[Sentence] = &[
+    Sentence {
+        words: "sign 5 00",
+        refusal: "the first word is the name of no call",
+    },
+    Sentence {
+        words: "rekey -",
+        refusal: "rekey: ID has to be a text that is not empty; its form is: rekey ID [offset=SECONDS]",
+    },
+    Sentence {
+        words: "hash 00",
+        refusal: "hash: hash= has to be one of MD2, MD4, MD5, SHA_1, SHA_224, SHA_256, SHA_384, SHA_512, RIPEMD_160, Tiger, Whirlpool, SHA_512_224, SHA_512_256; its form is: hash DATA hash=NAME",
+    },
+    Sentence {
+        words: "archive 5 6",
+        refusal: "archive: a word is no option of it, or an option is given twice; its form is: archive ID",
+    },
+    Sentence {
+        words: "validate",
+        refusal: "validate: ID has to be a text that is not empty; its form is: validate ID [ID..]",
+    },
+    Sentence {
+        words: "check 5 usage=sign",
+        refusal: "check: usage= has to be names of uses, as Sign,Verify; its form is: check ID [count=N] [usage=USES] [lease=SECONDS]",
+    },
+];
+
+/// The words of a row are refused with its sentence.
+fn is_refused(rt: &impl Abort, alloc: Global, row: &Sentence) {
+    let why = refusal(rt, alloc, row.words).expect(rt, row.words);
+    assert_eq!(rt; why.as_str(), row.refusal, "{}", row.words);
+}
+
+#[test]
+fn sentences(rt: &impl Abort, alloc: Global) {
+    for row in SENTENCES {
+        is_refused(rt, alloc, row);
+    }
+    assert!(rt; refusal(rt, alloc, "rekey 5").is_none());
 }
