@@ -118,7 +118,7 @@ pub(crate) fn mask_bits(tag: Tag) -> &'static [(u32, &'static str)]
 
 /// The bit with this name in the mask under the tag; `None` where the tag is none of a mask, or there
 /// is no such bit.
-pub(crate) fn mask_bit(tag: Tag, name: &str) -> Option<u32>
+pub fn mask_bit(tag: Tag, name: &str) -> Option<u32>
     ensures {{ result ≡ mask_bit tag name.now }}
 {{
     match tag.number() {{

@@ -248,9 +248,10 @@ fn number_in(civil: Civil, rest: &[u8]) -> Option<u64>
 }
 
 #[tactic(auto, unfolding(crate::specs::Dates::date_number))]
-/// The number of a text that is a date from the year 1 to the year 9999 and a time of day, as
-/// `2001-01-01T10:00:00+00:00`, `2001-01-01T12:00:00+02:00` or `2001-01-01T10:00:00Z`.
-pub(crate) fn date_number(text: &[u8]) -> Option<u64>
+/// The number of a Date-Time (KMIP 1.0, 9.1.1.4) that is given as a date from the year 1 to the year
+/// 9999 and a time of day, as `2001-01-01T10:00:00+00:00`, `2001-01-01T12:00:00+02:00` or
+/// `2001-01-01T10:00:00Z`: the eight bytes of the signed seconds since 1970. `None` of another text.
+pub fn date_number(text: &[u8]) -> Option<u64>
     ensures { result ≡ date_number text.now }
 {
     let civil = civil_in(text)?;

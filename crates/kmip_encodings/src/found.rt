@@ -36,8 +36,9 @@ pub(crate) fn is_member(name: &str) -> bool {
     name == "tag" || name == "type" || name == "value" || name == "name"
 }
 
-/// Appends a string in quotes, or its length where it is long.
-pub(crate) fn push_quoted(alloc: Global, out: &mut Text, text: &str) -> Result<(), OutOfMemory> {
+/// Appends a string in quotes, with the escapes of JSON; or its length, as `a string of 61 bytes`,
+/// where it has more than 60 bytes. It fails only where memory runs out.
+pub fn push_quoted(alloc: Global, out: &mut Text, text: &str) -> Result<(), OutOfMemory> {
     if text.len() <= SHOWN {
         return Text::of(alloc, text)?.show_json(alloc, out);
     }
@@ -248,8 +249,8 @@ pub(crate) fn repeated(alloc: Global, text: &str) -> Result<(usize, Option<Text>
     Ok((0, None))
 }
 
-/// The line of a byte, counted from 1.
-pub(crate) fn line_of(text: &[u8], offset: usize) -> usize
+/// The line of the byte at an offset, counted from 1; past the end of the text that of its end.
+pub fn line_of(text: &[u8], offset: usize) -> usize
     ensures { 0 < result }
 {
     let mut before = 0usize;
@@ -261,8 +262,9 @@ pub(crate) fn line_of(text: &[u8], offset: usize) -> usize
     before.saturating_add(1)
 }
 
-/// The column of a byte in its line, in characters, counted from 1.
-pub(crate) fn column_of(text: &[u8], offset: usize) -> usize
+/// The column of the byte at an offset in its line, in characters, counted from 1; past the end of the
+/// text that of its end.
+pub fn column_of(text: &[u8], offset: usize) -> usize
     ensures { 0 < result }
 {
     let mut before = 0usize;

@@ -31,10 +31,16 @@ mod write_xml;
 
 pub use attributes::attribute_tag;
 pub use context::{named_after, place, unnamed};
+pub use date::date_number;
 pub use error::{EncodingError, Expected, Fault};
+pub use found::{column_of, line_of, push_quoted};
 pub use laws::{item_sizes, names_back, read_back, read_levels, written_xml};
-pub use names::{enumeration_name, enumeration_number};
-pub use read_json::from_json;
+pub use masks::mask_bit;
+pub use names::{enumeration_name, enumeration_number, push_names};
+pub use read_json::{
+    bits_of_parts, from_json, hex_bytes, kind_named, long_in, number_node, parts_between, spelled,
+    string_node, tag_of_text, whole_number, word_in,
+};
 pub use refusal::{Refusal, push_refusal, refusal_of};
 pub use text::{mask_text, tag_digits};
 pub use words::{tag_named, tag_word};

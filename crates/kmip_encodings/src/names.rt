@@ -102,7 +102,7 @@ pub fn enumeration_number(tag: Tag, name: &str) -> Option<u32>
     None
 }
 
-/// How many names of an enumeration are told at most.
+/// How many names of an enumeration are shown at most.
 const FEW: usize = 16;
 
 /// Whether the line has the name that is written of its number, under the tag.
@@ -118,9 +118,9 @@ fn is_written(index: usize, tag: Tag) -> bool
     }
 }
 
-/// Appends the names of the enumeration under the tag, with a comma after each, where they are few;
-/// and returns whether they are.
-pub(crate) fn push_names(out: &mut Text, tag: Tag) -> Result<bool, OutOfMemory> {
+/// Appends the names of the enumeration under the tag, with a comma and a space after each, where they
+/// are 1 to 16; and returns whether they are. It fails only where memory runs out.
+pub fn push_names(out: &mut Text, tag: Tag) -> Result<bool, OutOfMemory> {
     let mut count = 0usize;
     for index in 0..LINES {
         if is_written(index, tag) {

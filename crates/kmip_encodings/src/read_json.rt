@@ -40,8 +40,9 @@ use json::{Error, MAX_DEPTH, Reader, Scratch, Token, Value};
 use kmip_wire::{Blob, Kind, Node, OutOfMemory, Tag, Text, Tree, Trees};
 use std::alloc::Global;
 
-/// The bytes that a text spells in hex digits; `None` where it spells none.
-fn spelled(alloc: Global, digits: &[u8]) -> Result<Option<Vec<u8>>, OutOfMemory>
+/// The bytes that a text spells in hex digits, two for a byte and of either case, with no `0x` before
+/// them; `None` where it spells none. It fails only where memory runs out.
+pub fn spelled(alloc: Global, digits: &[u8]) -> Result<Option<Vec<u8>>, OutOfMemory>
     ensures { IfOk result
         (λ bytes. option_map (λ b. b.items) bytes ≡ result_ok (decode_of digits.now)) }
 {
@@ -59,8 +60,9 @@ fn has_mark(text: &[u8]) -> bool
     text.len() >= 2 && text[0] == b'0' && text[1] == b'x'
 }
 
-/// The bytes of `0x` and their digits.
-fn hex_bytes(alloc: Global, text: &[u8]) -> Result<Option<Vec<u8>>, OutOfMemory>
+/// The bytes of `0x` and their digits, two for a byte and of either case; `None` of another text. It
+/// fails only where memory runs out.
+pub fn hex_bytes(alloc: Global, text: &[u8]) -> Result<Option<Vec<u8>>, OutOfMemory>
     ensures { IfOk result (λ bytes. option_map (λ b. b.items) bytes ≡ hex_bytes text.now) }
 {
     if has_mark(text) {
@@ -102,8 +104,9 @@ fn long_of_bytes(bytes: &[u8]) -> Option<u64>
     }
 }
 
-/// The number of `0x` and eight digits.
-fn word_in(alloc: Global, text: &str) -> Result<Option<u32>, OutOfMemory>
+/// The number of `0x` and exactly eight hex digits; `None` of another text. It fails only where memory
+/// runs out.
+pub fn word_in(alloc: Global, text: &str) -> Result<Option<u32>, OutOfMemory>
     ensures { IfOk result (λ n. n ≡ option_and_then word_of_bytes (hex_bytes text.now)) }
 {
     match hex_bytes(alloc, text.as_bytes())? {
@@ -112,8 +115,9 @@ fn word_in(alloc: Global, text: &str) -> Result<Option<u32>, OutOfMemory>
     }
 }
 
-/// The number of `0x` and 16 digits.
-fn long_in(alloc: Global, text: &str) -> Result<Option<u64>, OutOfMemory>
+/// The number of `0x` and exactly 16 hex digits; `None` of another text. It fails only where memory
+/// runs out.
+pub fn long_in(alloc: Global, text: &str) -> Result<Option<u64>, OutOfMemory>
     ensures { IfOk result (λ n. n ≡ option_and_then long_of_bytes (hex_bytes text.now)) }
 {
     match hex_bytes(alloc, text.as_bytes())? {
@@ -132,9 +136,10 @@ fn tag_in(alloc: Global, text: &str) -> Result<Option<Tag>, OutOfMemory>
     }
 }
 
-/// The tag of `0x` and six digits, or of a name.
+/// The tag of `0x` and six hex digits, from 0x000000 to 0xFFFFFF, or of a name by OASIS's rule, as
+/// `UniqueIdentifier`; `None` of another text. It fails only where memory runs out.
 #[tactic(auto, unfolding(crate::specs::Reading::tag_of_text))]
-pub(crate) fn tag_of_text(alloc: Global, text: &str) -> Result<Option<Tag>, OutOfMemory>
+pub fn tag_of_text(alloc: Global, text: &str) -> Result<Option<Tag>, OutOfMemory>
     ensures { IfOk result (λ tag. tag ≡ tag_of_text text.now) }
 {
     if has_mark(text.as_bytes()) {
@@ -179,8 +184,10 @@ fn part_of_text(alloc: Global, tag: Tag, text: &str) -> Result<Option<u32>, OutO
     }
 }
 
-/// The bits of these parts together.
-fn bits_of_parts(alloc: Global, tag: Tag, parts: &[&str]) -> Result<Option<u32>, OutOfMemory>
+/// The bits of these parts together: each is the name of a bit in the mask under the tag, as `Encrypt`
+/// under Cryptographic Usage Mask (KMIP 1.2, 9.1.3.3), or `0x` and eight hex digits. 0 of no parts;
+/// `None` where a part is neither. It fails only where memory runs out.
+pub fn bits_of_parts(alloc: Global, tag: Tag, parts: &[&str]) -> Result<Option<u32>, OutOfMemory>
     ensures { IfOk result
         (λ bits. bits ≡ bits_of_parts tag (map (λ part. part.now) parts.now)) }
 {
@@ -198,8 +205,9 @@ fn bits_of_parts(alloc: Global, tag: Tag, parts: &[&str]) -> Result<Option<u32>,
     }
 }
 
-/// What stands between the separators, each a character of ASCII.
-fn parts_between(alloc: Global, separator: char, text: &str) -> Result<Vec<&str>, OutOfMemory>
+/// What stands between the separators, each a character of ASCII: one part more than there are
+/// separators, the whole text where there is none. It fails only where memory runs out.
+pub fn parts_between(alloc: Global, separator: char, text: &str) -> Result<Vec<&str>, OutOfMemory>
     requires { separator < 128 }
     ensures { IfOk result
         (λ parts. map (λ part. part.now) parts.items ≡ slice_split (λ c. c == separator) text.now) }
@@ -238,8 +246,9 @@ fn is_printed(number: i64, text: &str) -> bool
     Buffer::new().format(number) == text
 }
 
-/// The number nearer to 0 than 2^53 whose decimal form is this text.
-fn whole_number(text: &str) -> Option<i64>
+/// The number nearer to 0 than 2^53 whose decimal form is this text: with no `+`, no zeros before it
+/// and no `-0`. `None` of another text.
+pub fn whole_number(text: &str) -> Option<i64>
     ensures { result ≡ whole_number text.now }
 {
     let Ok(number) = text.parse::<i64>() else {
@@ -278,8 +287,10 @@ fn natural(text: &str) -> Option<u32>
     small_natural(whole_number(text)?)
 }
 
-/// The value of an item of the type, given as a number; none of a Big Integer.
-fn number_node(kind: Kind, text: &str) -> Option<Node>
+/// The value of an item of the type, given in decimal as `whole_number` has it: an Integer from -2^31
+/// to 2^31 - 1, a Long Integer nearer to 0 than 2^53, an Enumeration or an Interval from 0 to
+/// 2^32 - 1. `None` of another text or type, of a Big Integer too.
+pub fn number_node(kind: Kind, text: &str) -> Option<Node>
     ensures { (tag : ℕ) → option_map (tree_of_node tag) result ≡
         option_map (scalar tag) (number_scalar kind text.now) }
 {
@@ -384,8 +395,17 @@ fn interval_node(word: Option<u32>) -> Option<Node>
     Some(Node::Interval(word?))
 }
 
-/// The value of an item of the type, given as a string; its names are looked up under the tag.
-fn string_node(alloc: Global, tag: Tag, kind: Kind, text: &str) -> Result<Option<Node>, OutOfMemory>
+/// The value of an item of the type, given as a string of its JSON; its names are looked up under the
+/// tag, which is that of `place`. Integers are names of bits with `|` between two, or `0x` and eight
+/// digits; the other numbers, Booleans and Date-Times are `0x` and their digits, or a name or a date;
+/// a Byte String is hex digits, and a Text String any text. `None` of another text, and of a Structure.
+/// It fails only where memory runs out.
+pub fn string_node(
+    alloc: Global,
+    tag: Tag,
+    kind: Kind,
+    text: &str,
+) -> Result<Option<Node>, OutOfMemory>
     ensures { IfOk result (λ node. (t : ℕ) → option_map (tree_of_node t) node ≡
         option_map (scalar t) (string_scalar tag kind text.now)) }
 {
@@ -431,7 +451,8 @@ fn scalar_node(
     }
 }
 
-fn kind_named(text: &str) -> Option<Kind>
+/// The type of this name, as `TextString` or `DateTime`; `None` of another text.
+pub fn kind_named(text: &str) -> Option<Kind>
     ensures { result ≡ kind_named text.now }
 {
     match text {
