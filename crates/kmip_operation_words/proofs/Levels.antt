@@ -6,7 +6,7 @@ use Rattle.std.proofs.lemmas.Option.{none-some, same_Some}
 use Rattle.kmip_wire.specs.Tree.{Tree, Scalar, scalar, structure, trees_of}
 use Rattle.kmip_wire.specs.Bytes.{levels, levels_of_all}
 use Rattle.kmip_request_words.specs.Options.{value_given}
-use Rattle.kmip_operation_words.specs.Rows.{Field, Form, item, parameter, attribute, domain, named, Place, word, words, option, needed, usual, always, Part}
+use Rattle.kmip_operation_words.specs.Rows.{Field, Form, bare, as_parameter, as_attribute, in_domain, as_name, Place, word_at, each_behind, optional, needed, usual, always, Part}
 use Rattle.kmip_operation_words.specs.Values.{value_of}
 use Rattle.kmip_operation_words.specs.Items.{formed, value_tag, word_item, word_items, alone, both, all_items, Words, option_items, place_items, field_items, around, grouped, part_items}
 use Rattle.kmip_tags.specs.Tags.{REQUEST_PAYLOAD}
@@ -39,11 +39,11 @@ all-low n items low (x ∷ xs) =
 
 formed-low : (form : Form) (tag : ℕ) (value : Scalar)
     → levels_of_all (trees_of (alone (formed form (scalar (value_tag form tag) value)))) ≤ 3
-formed-low item tag value = omega arith
-formed-low parameter tag value = omega arith
-formed-low (attribute name) tag value = omega arith
-formed-low domain tag value = omega arith
-formed-low named tag value = omega arith
+formed-low bare tag value = omega arith
+formed-low as_parameter tag value = omega arith
+formed-low (as_attribute name) tag value = omega arith
+formed-low in_domain tag value = omega arith
+formed-low as_name tag value = omega arith
 
 value-low : (form : Form) (tag : ℕ) (value : Option Scalar)
     → Low 3 (option_map alone
@@ -74,9 +74,9 @@ option-low field otherwise None low = low
 option-low field otherwise (Some text) low = word-low field text
 
 place-low : (place : Place) (field : Field) (given : Words) → Low 3 (place_items place field given)
-place-low (word index) field given = at-low field (slice_get given.all index)
-place-low words field given = all-low 3 (word_items field) (word-low field) given.behind
-place-low option field given =
+place-low (word_at index) field given = at-low field (slice_get given.all index)
+place-low each_behind field given = all-low 3 (word_items field) (word-low field) given.behind
+place-low optional field given =
     option-low field (Some []) (value_given field.name given.behind) (omega arith)
 place-low needed field given = option-low field None (value_given field.name given.behind) tt
 place-low (usual text) field given =

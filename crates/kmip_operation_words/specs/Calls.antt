@@ -8,14 +8,14 @@ use Rattle.kmip_wire.specs.Tree.{Tree, structure, trees_of}
 use Rattle.kmip_request_words.specs.Options.{are_options}
 use Rattle.kmip_operation_words.specs.declared.rows.Rest.{Rest}
 use Rattle.kmip_operation_words.specs.declared.rows.Rest.TheVariants as rests
-use Rattle.kmip_operation_words.specs.Rows.{Field, Place, word, words, option, needed, usual, always, Part, Row}
+use Rattle.kmip_operation_words.specs.Rows.{Field, Place, word_at, each_behind, optional, needed, usual, always, Part, Row}
 use Rattle.kmip_operation_words.specs.Items.{Words, all_items, part_items}
 use Rattle.kmip_operation_words.specs.Table.{calls}
 
 -- whether a field is given by an option
 abbrev pub is_option : Place → Bool
-is_option (word index) = false
-is_option words = false
+is_option (word_at index) = false
+is_option each_behind = false
 is_option (always text) = false
 is_option place = true
 

@@ -4,7 +4,7 @@ use Rattle.std.specs.Option.{option_map, option_and_then}
 use Rattle.kmip_tags.specs.Tags as tags
 use Rattle.kmip_wire.specs.Tree.{Tree, Trees, scalar, structure, none, more, trees_of, text_string, enumeration}
 use Rattle.kmip_request_words.specs.Options.{value_given}
-use Rattle.kmip_operation_words.specs.Rows.{Field, Form, item, parameter, attribute, domain, named, Place, word, words, option, needed, usual, always, Part}
+use Rattle.kmip_operation_words.specs.Rows.{Field, Form, bare, as_parameter, as_attribute, in_domain, as_name, Place, word_at, each_behind, optional, needed, usual, always, Part}
 use Rattle.kmip_operation_words.specs.Values.{value_of}
 
 -- a structure of one item, and of two
@@ -21,18 +21,18 @@ attribute_item name value =
 
 -- the tag that the value of a field stands under
 abbrev pub value_tag : Form → ℕ → ℕ
-value_tag (attribute name) tag = tags.ATTRIBUTE_VALUE
+value_tag (as_attribute name) tag = tags.ATTRIBUTE_VALUE
 value_tag form tag = tag
 
 -- the item of a field whose value is this item: itself, or round it Cryptographic Parameters (KMIP
 -- 1.0, 3.6), an attribute, the attribute Cryptographic Domain Parameters (3.7) or Name (3.2)
 abbrev pub formed : Form → Tree → Tree
-formed item value = value
-formed parameter value = one_in tags.CRYPTOGRAPHIC_PARAMETERS value
-formed (attribute name) value = attribute_item name value
-formed domain value =
+formed bare value = value
+formed as_parameter value = one_in tags.CRYPTOGRAPHIC_PARAMETERS value
+formed (as_attribute name) value = attribute_item name value
+formed in_domain value =
     attribute_item (codes "Cryptographic Domain Parameters") (one_in tags.ATTRIBUTE_VALUE value)
-formed named value =
+formed as_name value =
     attribute_item (codes "Name")
     (two_in tags.ATTRIBUTE_VALUE value (scalar tags.NAME_TYPE (enumeration 1)))
 
@@ -74,10 +74,10 @@ option_items field otherwise (Some text) = word_items field text
 -- the items of a field by its place among the words; none where a word is missing, or is none of the
 -- field's kind
 abbrev pub place_items : Place → Field → Words → Option (List Tree)
-place_items (word index) field given =
+place_items (word_at index) field given =
     option_and_then (word_items field) (slice_get given.all index)
-place_items words field given = all_items (word_items field) given.behind
-place_items option field given =
+place_items each_behind field given = all_items (word_items field) given.behind
+place_items optional field given =
     option_items field (Some []) (value_given field.name given.behind)
 place_items needed field given = option_items field None (value_given field.name given.behind)
 place_items (usual text) field given =

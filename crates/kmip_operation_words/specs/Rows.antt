@@ -15,18 +15,18 @@ use Rattle.kmip_operation_words.specs.declared.rows.OperationRow.{OperationRow}
 -- Parameters; as the value of an attribute; in the attribute Cryptographic Domain Parameters; as the
 -- attribute Name
 pub data Form : Type 0 where
-  item : Form
-  parameter : Form
-  attribute : List ℕ → Form
-  domain : Form
-  named : Form
+  bare : Form
+  as_parameter : Form
+  as_attribute : List ℕ → Form
+  in_domain : Form
+  as_name : Form
 
 -- which word gives a field: that with an index; each word behind those; an option that may be left
 -- out, or is needed, or stands for a word where it is left out; or always the same word
 pub data Place : Type 0 where
-  word : ℕ → Place
-  words : Place
-  option : Place
+  word_at : ℕ → Place
+  each_behind : Place
+  optional : Place
   needed : Place
   usual : List ℕ → Place
   always : List ℕ → Place
@@ -64,16 +64,16 @@ row name operation words rest parts =
     record { name = name; operation = operation; words = words; rest = rest; parts = parts }
 
 abbrev pub form_view : TheForm → Form
-form_view Item = item
-form_view Parameter = parameter
-form_view (Attribute name) = attribute name.now
-form_view Domain = domain
-form_view Named = named
+form_view Item = bare
+form_view Parameter = as_parameter
+form_view (Attribute name) = as_attribute name.now
+form_view Domain = in_domain
+form_view Named = as_name
 
 abbrev pub place_view : ThePlace → Place
-place_view (places.Word index) = word index
-place_view places.Words = words
-place_view places.Option = option
+place_view (places.Word index) = word_at index
+place_view places.Words = each_behind
+place_view places.Option = optional
 place_view places.Needed = needed
 place_view (places.Usual text) = usual text.now
 place_view (places.Always text) = always text.now

@@ -4,7 +4,7 @@ use Rattle.kmip_tags.specs.Tags as tags
 use Rattle.kmip_enums.specs.declared.operation.Operation.TheVariants as operations
 use Rattle.kmip_operation_words.specs.declared.rows.Rest.TheVariants.{Options, Words}
 use Rattle.kmip_operation_words.specs.Rows.{Field, Part, part, Row, row}
-use Rattle.kmip_operation_words.specs.Fields.{algorithm_attribute, correlation, count, count_wanted, curve, curve_algorithm, curve_private_name, curve_public_name, data, data_alone, derivation_data, derived_by, hashed_by, id, ids, iterations, iv, key_algorithm, key_bits, key_name, key_usage, lease_wanted, length, length_needed, mac, method, name_given, offset, parameters, private_id, private_name, private_usage, public_name, public_usage, request, request_type, salt, seed, signature, symmetric_key, type, usage_attribute, usage_wanted}
+use Rattle.kmip_operation_words.specs.Fields.{algorithm_attribute, correlation, count, count_wanted, curve, curve_algorithm, curve_private_name, curve_public_name, data_alone, derivation_data, derived_by, hashed_by, id, ids, iterations, iv, key_algorithm, key_bits, key_name, key_usage, lease_wanted, length, length_needed, mac, method, name_given, object_data, offset, parameters, private_id, private_name, private_usage, public_name, public_usage, request, request_type, salt, seed, signature, symmetric_key, type, usage_attribute, usage_wanted}
 
 -- fields that stand in the payload itself
 abbrev pub own : List Field → Part
@@ -19,7 +19,7 @@ abbrev pub encrypt_row : Row
 encrypt_row = row (codes "encrypt") operations.Encrypt 2 Options
     (own (id ∷ [])
     ∷ within tags.CRYPTOGRAPHIC_PARAMETERS parameters
-    ∷ own (data ∷ iv ∷ [])
+    ∷ own (object_data ∷ iv ∷ [])
     ∷ [])
 
 -- KMIP 1.2, 4.30
@@ -27,7 +27,7 @@ abbrev pub decrypt_row : Row
 decrypt_row = row (codes "decrypt") operations.Decrypt 2 Options
     (own (id ∷ [])
     ∷ within tags.CRYPTOGRAPHIC_PARAMETERS parameters
-    ∷ own (data ∷ iv ∷ [])
+    ∷ own (object_data ∷ iv ∷ [])
     ∷ [])
 
 -- KMIP 1.2, 4.33
@@ -35,7 +35,7 @@ abbrev pub mac_row : Row
 mac_row = row (codes "mac") operations.MAC 2 Options
     (own (id ∷ [])
     ∷ within tags.CRYPTOGRAPHIC_PARAMETERS parameters
-    ∷ own (data ∷ [])
+    ∷ own (object_data ∷ [])
     ∷ [])
 
 -- KMIP 1.2, 4.34
@@ -43,7 +43,7 @@ abbrev pub mac_verify_row : Row
 mac_verify_row = row (codes "mac-verify") operations.MACVerify 3 Options
     (own (id ∷ [])
     ∷ within tags.CRYPTOGRAPHIC_PARAMETERS parameters
-    ∷ own (data ∷ mac ∷ [])
+    ∷ own (object_data ∷ mac ∷ [])
     ∷ [])
 
 -- KMIP 1.2, 4.32
@@ -51,7 +51,7 @@ abbrev pub verify_row : Row
 verify_row = row (codes "verify") operations.SignatureVerify 3 Options
     (own (id ∷ [])
     ∷ within tags.CRYPTOGRAPHIC_PARAMETERS parameters
-    ∷ own (data ∷ signature ∷ [])
+    ∷ own (object_data ∷ signature ∷ [])
     ∷ [])
 
 -- KMIP 1.2, 4.37

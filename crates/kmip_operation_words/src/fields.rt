@@ -146,8 +146,8 @@ pub const INITIAL_COUNTER: FieldRow = FieldRow {
     form: Form::Item,
 };
 
-/// The data, of the object.
-pub const DATA: FieldRow = FieldRow {
+/// The data that the object is used on.
+pub const OBJECT_DATA: FieldRow = FieldRow {
     name: "DATA",
     place: Place::Word(1),
     tag: tags::DATA,

@@ -3,7 +3,7 @@ ghost use Rattle.std.specs.Prelude.{◌≡◌, map};
 ghost use Rattle.kmip_operation_words.specs.Rows.{row_view};
 ghost use Rattle.kmip_operation_words.specs.Table.{calls};
 
-use crate::fields::{ALGORITHM_ATTRIBUTE, CORRELATION, COUNT, COUNT_WANTED, CURVE, CURVE_ALGORITHM, CURVE_PRIVATE_NAME, CURVE_PUBLIC_NAME, DATA, DATA_ALONE, DERIVATION_DATA, DERIVED_BY, HASHED_BY, ID, IDS, ITERATIONS, IV, KEY_ALGORITHM, KEY_BITS, KEY_NAME, KEY_USAGE, LEASE_WANTED, LENGTH, LENGTH_NEEDED, MAC, METHOD, NAME_GIVEN, OFFSET, PARAMETERS, PRIVATE_ID, PRIVATE_NAME, PRIVATE_USAGE, PUBLIC_NAME, PUBLIC_USAGE, REQUEST, REQUEST_TYPE, SALT, SEED, SIGNATURE, SYMMETRIC_KEY, TYPE, USAGE_ATTRIBUTE, USAGE_WANTED};
+use crate::fields::{ALGORITHM_ATTRIBUTE, CORRELATION, COUNT, COUNT_WANTED, CURVE, CURVE_ALGORITHM, CURVE_PRIVATE_NAME, CURVE_PUBLIC_NAME, DATA_ALONE, DERIVATION_DATA, DERIVED_BY, HASHED_BY, ID, IDS, ITERATIONS, IV, KEY_ALGORITHM, KEY_BITS, KEY_NAME, KEY_USAGE, LEASE_WANTED, LENGTH, LENGTH_NEEDED, MAC, METHOD, NAME_GIVEN, OBJECT_DATA, OFFSET, PARAMETERS, PRIVATE_ID, PRIVATE_NAME, PRIVATE_USAGE, PUBLIC_NAME, PUBLIC_USAGE, REQUEST, REQUEST_TYPE, SALT, SEED, SIGNATURE, SYMMETRIC_KEY, TYPE, USAGE_ATTRIBUTE, USAGE_WANTED};
 use crate::rows::{OperationRow, PartRow, Rest};
 use kmip_enums::Operation;
 use kmip_tags::tags;
@@ -26,7 +26,7 @@ const CALLS: &[OperationRow] = &[
             },
             PartRow {
                 group: None,
-                fields: &[DATA, IV],
+                fields: &[OBJECT_DATA, IV],
             },
         ],
         help: "the data, encrypted with a key",
@@ -47,7 +47,7 @@ const CALLS: &[OperationRow] = &[
             },
             PartRow {
                 group: None,
-                fields: &[DATA, IV],
+                fields: &[OBJECT_DATA, IV],
             },
         ],
         help: "the data, decrypted with a key",
@@ -68,7 +68,7 @@ const CALLS: &[OperationRow] = &[
             },
             PartRow {
                 group: None,
-                fields: &[DATA],
+                fields: &[OBJECT_DATA],
             },
         ],
         help: "the message authentication code of the data, by a key",
@@ -89,7 +89,7 @@ const CALLS: &[OperationRow] = &[
             },
             PartRow {
                 group: None,
-                fields: &[DATA, MAC],
+                fields: &[OBJECT_DATA, MAC],
             },
         ],
         help: "whether this is the message authentication code of the data",
@@ -110,7 +110,7 @@ const CALLS: &[OperationRow] = &[
             },
             PartRow {
                 group: None,
-                fields: &[DATA, SIGNATURE],
+                fields: &[OBJECT_DATA, SIGNATURE],
             },
         ],
         help: "whether this is a signature of the data, by the private key of this public one",

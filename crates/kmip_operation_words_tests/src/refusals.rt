@@ -2,6 +2,7 @@
 use crate::support::{asked, refusal};
 use std::alloc::Global;
 use std::process::Abort;
+use std::rt::HostRuntime;
 
 const NO_CALLS: &[&str] = &[
     "sign 5 00",
@@ -49,11 +50,12 @@ const NO_CALLS: &[&str] = &[
 ];
 
 #[test]
-fn words_that_are_no_call(rt: &impl Abort, alloc: Global) {
+fn words_that_are_no_call(rt: HostRuntime) {
+    let alloc = rt.alloc();
     for line in NO_CALLS {
-        let made = asked(rt, alloc, line);
+        let made = asked(&rt, alloc, line);
         assert!(rt; made.is_none(), "{line}");
-        assert!(rt; refusal(rt, alloc, line).is_some(), "{line}");
+        assert!(rt; refusal(&rt, alloc, line).is_some(), "{line}");
     }
 }
 
@@ -96,9 +98,10 @@ fn is_refused(rt: &impl Abort, alloc: Global, row: &Sentence) {
 }
 
 #[test]
-fn sentences(rt: &impl Abort, alloc: Global) {
+fn sentences(rt: HostRuntime) {
+    let alloc = rt.alloc();
     for row in SENTENCES {
-        is_refused(rt, alloc, row);
+        is_refused(&rt, alloc, row);
     }
-    assert!(rt; refusal(rt, alloc, "rekey 5").is_none());
+    assert!(rt; refusal(&rt, alloc, "rekey 5").is_none());
 }
