@@ -56,11 +56,7 @@ fn push_all_names(parts: &[PartRow], names: &mut Vec<&'static str>) -> Result<()
 }
 
 /// Whether these words may stand behind those of a row.
-fn may_stand_behind(
-    alloc: Global,
-    row: &OperationRow,
-    words: &[Text],
-) -> Result<bool, OutOfMemory>
+fn may_stand_behind(alloc: Global, row: &OperationRow, words: &[Text]) -> Result<bool, OutOfMemory>
     ensures { IfOk result (λ may. may ≡ asks.may_stand_behind (row_view row.now) words.now) }
 {
     match row.rest {

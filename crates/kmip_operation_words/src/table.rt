@@ -3,7 +3,14 @@ ghost use Rattle.std.specs.Prelude.{◌≡◌, map};
 ghost use Rattle.kmip_operation_words.specs.Rows.{row_view};
 ghost use Rattle.kmip_operation_words.specs.Table.{calls};
 
-use crate::fields::{ALGORITHM_ATTRIBUTE, CORRELATION, COUNT, COUNT_WANTED, CURVE, CURVE_ALGORITHM, CURVE_PRIVATE_NAME, CURVE_PUBLIC_NAME, DATA_ALONE, DERIVATION_DATA, DERIVED_BY, HASHED_BY, ID, IDS, ITERATIONS, IV, KEY_ALGORITHM, KEY_BITS, KEY_NAME, KEY_USAGE, LEASE_WANTED, LENGTH, LENGTH_NEEDED, MAC, METHOD, NAME_GIVEN, OBJECT_DATA, OFFSET, PARAMETERS, PRIVATE_ID, PRIVATE_NAME, PRIVATE_USAGE, PUBLIC_NAME, PUBLIC_USAGE, REQUEST, REQUEST_TYPE, SALT, SEED, SIGNATURE, SYMMETRIC_KEY, TYPE, USAGE_ATTRIBUTE, USAGE_WANTED};
+use crate::fields::{
+    ALGORITHM_ATTRIBUTE, CORRELATION, COUNT, COUNT_WANTED, CURVE, CURVE_ALGORITHM,
+    CURVE_PRIVATE_NAME, CURVE_PUBLIC_NAME, DATA_ALONE, DERIVATION_DATA, DERIVED_BY, HASHED_BY, ID,
+    IDS, ITERATIONS, IV, KEY_ALGORITHM, KEY_BITS, KEY_NAME, KEY_USAGE, LEASE_WANTED, LENGTH,
+    LENGTH_NEEDED, MAC, METHOD, NAME_GIVEN, OBJECT_DATA, OFFSET, PARAMETERS, PRIVATE_ID,
+    PRIVATE_NAME, PRIVATE_USAGE, PUBLIC_NAME, PUBLIC_USAGE, REQUEST, REQUEST_TYPE, SALT, SEED,
+    SIGNATURE, SYMMETRIC_KEY, TYPE, USAGE_ATTRIBUTE, USAGE_WANTED,
+};
 use crate::rows::{OperationRow, PartRow, Rest};
 use kmip_enums::Operation;
 use kmip_tags::tags;
@@ -148,7 +155,12 @@ const CALLS: &[OperationRow] = &[
             },
             PartRow {
                 group: Some(tags::TEMPLATE_ATTRIBUTE),
-                fields: &[ALGORITHM_ATTRIBUTE, LENGTH_NEEDED, USAGE_ATTRIBUTE, NAME_GIVEN],
+                fields: &[
+                    ALGORITHM_ATTRIBUTE,
+                    LENGTH_NEEDED,
+                    USAGE_ATTRIBUTE,
+                    NAME_GIVEN,
+                ],
             },
         ],
         help: "a new key or secret, derived from an object by PBKDF2, HASH or HMAC",
@@ -158,12 +170,10 @@ const CALLS: &[OperationRow] = &[
         operation: Operation::Rekey,
         words: 1,
         rest: Rest::Options,
-        parts: &[
-            PartRow {
-                group: None,
-                fields: &[ID, OFFSET],
-            },
-        ],
+        parts: &[PartRow {
+            group: None,
+            fields: &[ID, OFFSET],
+        }],
         help: "a new symmetric key in the place of this one",
     },
     OperationRow {
@@ -171,12 +181,10 @@ const CALLS: &[OperationRow] = &[
         operation: Operation::RekeyKeyPair,
         words: 1,
         rest: Rest::Options,
-        parts: &[
-            PartRow {
-                group: None,
-                fields: &[PRIVATE_ID, OFFSET],
-            },
-        ],
+        parts: &[PartRow {
+            group: None,
+            fields: &[PRIVATE_ID, OFFSET],
+        }],
         help: "a new pair of keys in the place of the pair of this private key",
     },
     OperationRow {
@@ -277,12 +285,10 @@ const CALLS: &[OperationRow] = &[
         operation: Operation::Check,
         words: 1,
         rest: Rest::Options,
-        parts: &[
-            PartRow {
-                group: None,
-                fields: &[ID, COUNT_WANTED, USAGE_WANTED, LEASE_WANTED],
-            },
-        ],
+        parts: &[PartRow {
+            group: None,
+            fields: &[ID, COUNT_WANTED, USAGE_WANTED, LEASE_WANTED],
+        }],
         help: "whether an object may be used so",
     },
     OperationRow {
@@ -290,12 +296,10 @@ const CALLS: &[OperationRow] = &[
         operation: Operation::GetAttributeList,
         words: 1,
         rest: Rest::Options,
-        parts: &[
-            PartRow {
-                group: None,
-                fields: &[ID],
-            },
-        ],
+        parts: &[PartRow {
+            group: None,
+            fields: &[ID],
+        }],
         help: "the names of the attributes that an object has",
     },
     OperationRow {
@@ -303,12 +307,10 @@ const CALLS: &[OperationRow] = &[
         operation: Operation::ObtainLease,
         words: 1,
         rest: Rest::Options,
-        parts: &[
-            PartRow {
-                group: None,
-                fields: &[ID],
-            },
-        ],
+        parts: &[PartRow {
+            group: None,
+            fields: &[ID],
+        }],
         help: "a lease of an object: for how long it may be used",
     },
     OperationRow {
@@ -316,12 +318,10 @@ const CALLS: &[OperationRow] = &[
         operation: Operation::GetUsageAllocation,
         words: 2,
         rest: Rest::Options,
-        parts: &[
-            PartRow {
-                group: None,
-                fields: &[ID, COUNT],
-            },
-        ],
+        parts: &[PartRow {
+            group: None,
+            fields: &[ID, COUNT],
+        }],
         help: "so much of the use that is left of an object",
     },
     OperationRow {
@@ -329,12 +329,10 @@ const CALLS: &[OperationRow] = &[
         operation: Operation::Archive,
         words: 1,
         rest: Rest::Options,
-        parts: &[
-            PartRow {
-                group: None,
-                fields: &[ID],
-            },
-        ],
+        parts: &[PartRow {
+            group: None,
+            fields: &[ID],
+        }],
         help: "the object may be stored off line",
     },
     OperationRow {
@@ -342,12 +340,10 @@ const CALLS: &[OperationRow] = &[
         operation: Operation::Recover,
         words: 1,
         rest: Rest::Options,
-        parts: &[
-            PartRow {
-                group: None,
-                fields: &[ID],
-            },
-        ],
+        parts: &[PartRow {
+            group: None,
+            fields: &[ID],
+        }],
         help: "the object is to be on line again",
     },
     OperationRow {
@@ -355,12 +351,10 @@ const CALLS: &[OperationRow] = &[
         operation: Operation::Validate,
         words: 1,
         rest: Rest::Words,
-        parts: &[
-            PartRow {
-                group: None,
-                fields: &[ID, IDS],
-            },
-        ],
+        parts: &[PartRow {
+            group: None,
+            fields: &[ID, IDS],
+        }],
         help: "whether these certificates are a valid chain",
     },
     OperationRow {
@@ -368,12 +362,10 @@ const CALLS: &[OperationRow] = &[
         operation: Operation::Cancel,
         words: 1,
         rest: Rest::Options,
-        parts: &[
-            PartRow {
-                group: None,
-                fields: &[CORRELATION],
-            },
-        ],
+        parts: &[PartRow {
+            group: None,
+            fields: &[CORRELATION],
+        }],
         help: "the operation that has not ended is stopped",
     },
     OperationRow {
@@ -381,12 +373,10 @@ const CALLS: &[OperationRow] = &[
         operation: Operation::Poll,
         words: 1,
         rest: Rest::Options,
-        parts: &[
-            PartRow {
-                group: None,
-                fields: &[CORRELATION],
-            },
-        ],
+        parts: &[PartRow {
+            group: None,
+            fields: &[CORRELATION],
+        }],
         help: "how far the operation is that has not ended",
     },
     OperationRow {
@@ -394,12 +384,10 @@ const CALLS: &[OperationRow] = &[
         operation: Operation::RNGSeed,
         words: 1,
         rest: Rest::Options,
-        parts: &[
-            PartRow {
-                group: None,
-                fields: &[SEED],
-            },
-        ],
+        parts: &[PartRow {
+            group: None,
+            fields: &[SEED],
+        }],
         help: "the random numbers get these bytes",
     },
 ];

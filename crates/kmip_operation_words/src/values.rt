@@ -12,9 +12,9 @@ ghost use Rattle.kmip_operation_words.specs.Values.{not_empty, truth_of, value_o
 
 use crate::rows::Kind;
 use bitflags::Flags;
+use kmip_codes::CryptographicUsageMask;
 use kmip_encodings::enumeration_number;
 use kmip_request_words::{bytes_of, int_of, number_of, parts_between, word_text};
-use kmip_codes::CryptographicUsageMask;
 use kmip_wire::{Node, OutOfMemory, Tag, Tree};
 use std::alloc::Global;
 
