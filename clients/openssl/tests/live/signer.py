@@ -18,7 +18,8 @@ import subprocess
 import sys
 import threading
 
-sys.path.insert(0, os.path.join(os.path.dirname(os.path.abspath(__file__)), '..'))
+TOP = os.path.realpath(os.path.join(os.path.dirname(__file__), *4 * ['..']))
+sys.path.insert(0, os.path.join(TOP, 'tools', 'live'))
 from ttlv import (FAILED, enumeration, identifier, integer, message_of, octets, operation_of, response, structure,  # noqa: E402
                   text, value_of)
 
