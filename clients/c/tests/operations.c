@@ -203,8 +203,9 @@ static void encryption(kmip_client *client) {
        KMIP 1.2 that is past the table. */
     snprintf(wrap, sizeof wrap, "wrap=%s", key);
     check(kmip_call(client, "get", key, wrap, NULL) == KMIP_REFUSED, "a reason past the table");
-    check(strstr(kmip_line(client), "\"reason\":18,\"message\":\"Encoding option 'None' is not "
-                                    "supported.\"") != NULL,
+    check(strstr(kmip_line(client),
+                 "\"reason\":{\"number\":18},"
+                 "\"message\":\"Encoding option 'None' is not supported.\"") != NULL,
           "is told, with the server's message");
     check(ask(client, "Get",
               IDENTIFIER

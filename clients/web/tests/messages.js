@@ -66,7 +66,7 @@ const attributes = structure(0x420078, ...under.map(([name, value]) => attribute
   structure(0x420008, enumeration(0x42000B, 3)), enumeration(0x42000B, 1),
   enumeration(0x420024, 1), integer(0x42002C, -2147483647), integer(0x42008E, 3));
 const attributeValues = [...under.map(it => it[2]), '1', '0x4 Compromised', '0x3', '0x1',
-  '0x1 UsernameAndPassword', '-2147483647 Sign', '3 OnLineStorage ArchivalStorage'];
+  '0x1 UsernameAndPassword', '-2147483647 Sign 0x80000000', '3 OnLineStorage ArchivalStorage'];
 
 function exchange(number, size) {
   const id = 'key-' + number;
