@@ -144,7 +144,7 @@ _kmip_call() {
     case $typed in
     record=*) _kmip_offer_files "${typed#record=}" ;;
     *=*) COMPREPLY=() ;;
-    -*) _kmip_offer "$typed" --help --version --grammar ;;
+    -*) _kmip_offer "$typed" --help --version --grammar --operations ;;
     *) _kmip_offer "$typed" "${_kmip_calls[@]}" "${options[@]}" ;;
     esac
     if [[ ${COMPREPLY[0]-} == *= ]]; then compopt -o nospace 2>/dev/null || :; fi

@@ -8,6 +8,10 @@
 //! says.
 #![tactic(auto)]
 
+mod operation;
+
+use crate::operation::{Wording, file_of_bytes, is_of_table, operations_text, words_for};
+use hex::encode;
 use kmip_caller::{
     CLOSED_STREAM, Command, LastError, NO_FILE, NOT_UTF8, Order, Status, WRONG_LIMIT, Watched,
     command_of, file_in, grammar_json, help_text, refuse, run, with_contents,
@@ -97,19 +101,27 @@ fn read_named(rt: &HostRuntime, name: &str) -> io::Result<Vec<u8>> {
     fs::read(rt, path.as_str())
 }
 
+/// What a file has that a word names, or why it cannot be read.
+fn contents_of(rt: &HostRuntime, name: &str) -> Result<Result<Vec<u8>, Text>, OutOfMemory> {
+    match read_named(rt, name) {
+        Ok(contents) => Ok(Ok(contents)),
+        Err(error) if error.kind() == ErrorKind::OutOfMemory => Err(OutOfMemory),
+        Err(error) => {
+            let why = format!(in rt.alloc(); "cannot read @{name}: {error}")?;
+            Ok(Err(Text::of_string(why)))
+        }
+    }
+}
+
 /// Puts what a file has in the place of the word of a call that names it, where one does. It
 /// returns why it cannot.
 fn fill(rt: &HostRuntime, order: &mut Order) -> Result<Option<Text>, OutOfMemory> {
     let Some(name) = file_in(order.words.as_slice()) else {
         return Ok(None);
     };
-    let contents = match read_named(rt, name) {
+    let contents = match contents_of(rt, name)? {
         Ok(contents) => contents,
-        Err(error) if error.kind() == ErrorKind::OutOfMemory => return Err(OutOfMemory),
-        Err(error) => {
-            let why = format!(in rt.alloc(); "cannot read @{name}: {error}")?;
-            return Ok(Some(Text::of_string(why)));
-        }
+        Err(why) => return Ok(Some(why)),
     };
     let Some(words) = with_contents(rt.alloc(), &contents, order.words.as_slice())? else {
         let why = format!(in rt.alloc(); "@{name} is no JSON: it is not UTF-8")?;
@@ -204,13 +216,62 @@ fn perform(rt: &HostRuntime, order: &Order) -> Status {
     }
 }
 
-/// Makes a call, whose words may name a file, and returns the status. Where that cannot be read, it
-/// is `NoCall`.
+/// Puts what files have, in hex, in the place of the words of a call of the table that name them. It
+/// returns why it cannot.
+fn fill_bytes(rt: &HostRuntime, order: &mut Order) -> Result<Option<Text>, OutOfMemory> {
+    let mut words = List::new(rt.alloc());
+    for (place, word) in order.words.as_slice().iter().enumerate() {
+        let Some(name) = file_of_bytes(order.words.as_slice(), place) else {
+            words.push(Text::of(rt.alloc(), word.as_str())?)?;
+            continue;
+        };
+        match contents_of(rt, name)? {
+            Ok(contents) => words.push(Text::of_string(encode(rt.alloc(), contents)?))?,
+            Err(why) => return Ok(Some(why)),
+        }
+    }
+    order.words = words;
+    Ok(None)
+}
+
+/// Puts `operation` with a payload in the place of the words of a call of the table. It returns why
+/// it cannot.
+fn reword(rt: &HostRuntime, order: &mut Order) -> Result<Option<Text>, OutOfMemory> {
+    if !is_of_table(order.words.as_slice()) {
+        return Ok(None);
+    }
+    if let Some(why) = fill_bytes(rt, order)? {
+        return Ok(Some(why));
+    }
+    match words_for(rt.alloc(), order.words.as_slice())? {
+        Wording::Same => Ok(None),
+        Wording::Words(words) => {
+            order.words = words;
+            Ok(None)
+        }
+        Wording::Refused(why) => Ok(Some(why)),
+    }
+}
+
+/// Makes a call, whose words may name a file, and may be those of a call of the table, and returns
+/// the status. Where the file cannot be read, or the words are not those of the call, it is `NoCall`.
 fn perform_named(rt: &HostRuntime, mut order: Order) -> Status {
-    match fill(rt, &mut order) {
+    let refusal = match fill(rt, &mut order) {
+        Ok(None) => reword(rt, &mut order),
+        refused => refused,
+    };
+    match refusal {
         Ok(None) => perform(rt, &order),
         Ok(Some(why)) => refuse_with(rt, why.as_str()),
         Err(OutOfMemory) => Status::OutOfMemory,
+    }
+}
+
+/// Whether the one word is `--operations`, which prints the calls of the table.
+fn asks_for_operations(words: &[Text]) -> bool {
+    match words {
+        [word] => word.as_str() == "--operations",
+        _ => false,
     }
 }
 
@@ -225,6 +286,9 @@ fn main(rt: HostRuntime) -> ExitCode {
         }
         _ => return ExitCode::from(refuse_with(&rt, NOT_UTF8).code()),
     };
+    if asks_for_operations(words.as_slice()) {
+        return ExitCode::from(say_made(&rt, operations_text(rt.alloc())).code());
+    }
     let password = match &password {
         Some(password) => Some(password.as_str()),
         None => None,

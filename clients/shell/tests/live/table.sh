@@ -1,0 +1,42 @@
+# shellcheck shell=bash
+# kmip_call makes the calls of its table of operations, which it lists by --operations, as `operation` with their payloads.
+request() { # WORD..
+    "$built/kmip_call" "$@" </dev/null 2>"$said"
+}
+same() { # WHAT PAYLOAD OPERATION WORD..
+    [[ -n $(request "${@:4}" | od -An -tx1) ]] &&
+        cmp -s <(request "${@:4}") <(request operation "$3" "{\"tag\":\"RequestPayload\",\"value\":[$2]}")
+    verdict "$1"
+}
+id='{"tag":"UniqueIdentifier","type":"TextString","value":"5"}'
+data='{"tag":"Data","type":"ByteString","value":"68656C6C6F"}'
+mode='{"tag":"BlockCipherMode","type":"Enumeration","value":"CBC"}'
+padding='{"tag":"PaddingMethod","type":"Enumeration","value":"PKCS5"}'
+parameters='{"tag":"CryptographicParameters","value":['
+same 'an Encrypt' "$id,$parameters$mode,$padding]},$data,{\"tag\":\"IVCounterNonce\",\"type\":\"ByteString\",\"value\":\"00112233\"}" \
+    Encrypt encrypt 5 68656C6C6F padding=PKCS5 mode=CBC iv=00112233
+same 'a Hash' "$parameters{\"tag\":\"HashingAlgorithm\",\"type\":\"Enumeration\",\"value\":\"SHA_256\"}]},$data" \
+    Hash hash 68656C6C6F hash=SHA256
+same 'an Archive' "$id" Archive archive 5
+printf hello >data.bin
+same 'bytes of a file' "$id,$data" Encrypt encrypt 5 @data.bin
+same 'bytes of a descriptor' "$id,$data" Encrypt encrypt 5 @3 3<data.bin
+refused() { # WHAT REGEX WORD..
+    local status
+    [[ -z $(request "${@:3}" | od -An -tx1) ]]
+    verdict "$1: nothing is sent"
+    request "${@:3}" >sent
+    status=$?
+    ((status == 2)) && grep -qE -- "$2" "$said"
+    verdict "$1: it is said, with status 2"
+}
+refused 'a word that is missing' '"GrammarError".*encrypt' encrypt 5
+refused 'a mode that is none' '"GrammarError".*mode=.*CBC' encrypt 5 00 mode=XYZ
+refused 'an empty identifier' '"GrammarError"' archive -
+refused 'a file that is not there' '"GrammarError".*cannot read @nowhere' encrypt 5 @nowhere
+refused 'a call that is to be recorded' '"GrammarError"' record=record archive 5
+"$built/kmip_call" --operations >"$said" 2>&1
+verdict 'the table is listed'
+(($(grep -c '^[a-z]' "$said") == $(grep -c '^    [a-z]' "$said") && $(grep -c '^[a-z]' "$said") >= 20))
+verdict 'each call of it has its words and what it asks for'
+says 'as that of encrypt' '^encrypt ID DATA \[mode='
