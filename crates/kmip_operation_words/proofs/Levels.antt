@@ -1,14 +1,14 @@
 -- What words ask for has few levels.
-use Rattle.std.proofs.Common.{◌≡◌, ◌≤◌, ◌+◌, ℕ, List, [], ◌∷◌, ◌++◌, Option, Some, None, Bool, true, false, refl, ap, sym, ◌∙◌, arith, subst}
+use Rattle.std.proofs.Common.{◌≡◌, ◌≤◌, ℕ, List, [], ◌∷◌, ◌++◌, Option, Some, None, Bool, true, false, refl, ap, arith, subst}
 use Rattle.std.specs.Prelude.{nat_lt, ◌^◌, slice_get, IfSome, if◌then◌else◌}
 use Rattle.std.specs.Option.{option_map, option_and_then}
 use Rattle.std.proofs.lemmas.Option.{none-some, same_Some}
-use Rattle.kmip_wire.specs.Tree.{Tree, Scalar, scalar, structure, trees_of}
+use Rattle.kmip_wire.specs.Tree.{Tree, Scalar, scalar, trees_of}
 use Rattle.kmip_wire.specs.Bytes.{levels, levels_of_all}
 use Rattle.kmip_request_words.specs.Options.{value_given}
 use Rattle.kmip_operation_words.specs.Rows.{Field, Form, bare, as_parameter, as_attribute, in_domain, as_name, Place, word_at, each_behind, optional, needed, usual, always, Part}
 use Rattle.kmip_operation_words.specs.Values.{value_of}
-use Rattle.kmip_operation_words.specs.Items.{formed, value_tag, word_item, word_items, alone, both, all_items, Words, option_items, place_items, field_items, around, grouped, part_items}
+use Rattle.kmip_operation_words.specs.Items.{formed, value_tag, word_items, alone, both, all_items, Words, option_items, place_items, field_items, around, grouped, part_items}
 use Rattle.kmip_tags.specs.Tags.{REQUEST_PAYLOAD}
 use Rattle.kmip_enums.specs.declared.operation.Operation.{Operation}
 use Rattle.kmip_operation_words.specs.Rows.{Row}

@@ -1,5 +1,5 @@
 -- What the words of a call ask for.
-use Rattle.std.specs.Prelude.{ℕ, nat_le, List, [], ◌∷◌, ◌++◌, length, drop, map, Bool, true, false, ◌&&◌, Option, Some, None, if◌then◌else◌, bytes_eq}
+use Rattle.std.specs.Prelude.{ℕ, nat_le, List, [], ◌∷◌, ◌++◌, length, drop, Bool, true, false, ◌&&◌, Option, None, if◌then◌else◌, bytes_eq}
 use Rattle.std.specs.List.{find}
 use Rattle.std.specs.Option.{option_map, option_and_then}
 use Rattle.kmip_tags.specs.Tags.{REQUEST_PAYLOAD}
@@ -8,7 +8,7 @@ use Rattle.kmip_wire.specs.Tree.{Tree, structure, trees_of}
 use Rattle.kmip_request_words.specs.Options.{are_options}
 use Rattle.kmip_operation_words.specs.declared.rows.Rest.{Rest}
 use Rattle.kmip_operation_words.specs.declared.rows.Rest.TheVariants as rests
-use Rattle.kmip_operation_words.specs.Rows.{Field, Place, word_at, each_behind, optional, needed, usual, always, Part, Row}
+use Rattle.kmip_operation_words.specs.Rows.{Field, Place, word_at, each_behind, always, Part, Row}
 use Rattle.kmip_operation_words.specs.Items.{Words, all_items, part_items}
 use Rattle.kmip_operation_words.specs.Table.{calls}
 

@@ -2,7 +2,7 @@
 use Rattle.std.specs.Prelude.{List, [], ◌∷◌, codes}
 use Rattle.kmip_tags.specs.Tags as tags
 use Rattle.kmip_operation_words.specs.declared.rows.Kind.TheVariants.{Identifier, Text, Hex, Int, Count, Seconds, Truth, Name, Uses}
-use Rattle.kmip_operation_words.specs.Rows.{Field, field, Form, bare, as_parameter, as_attribute, in_domain, as_name, Place, word_at, each_behind, optional, needed, usual, always}
+use Rattle.kmip_operation_words.specs.Rows.{Field, field, bare, as_parameter, as_attribute, in_domain, as_name, word_at, each_behind, optional, needed, usual, always}
 
 -- the identifier of the object
 abbrev pub id : Field

@@ -2,7 +2,7 @@
 use Rattle.std.specs.Prelude.{ℕ, ◌^◌, nat_lt, Bool, List, [], ◌∷◌, ◌++◌, codes, Option, Some, None, if◌then◌else◌, slice_get}
 use Rattle.std.specs.Option.{option_map, option_and_then}
 use Rattle.kmip_tags.specs.Tags as tags
-use Rattle.kmip_wire.specs.Tree.{Tree, Trees, scalar, structure, none, more, trees_of, text_string, enumeration}
+use Rattle.kmip_wire.specs.Tree.{Tree, scalar, structure, none, more, trees_of, text_string, enumeration}
 use Rattle.kmip_request_words.specs.Options.{value_given}
 use Rattle.kmip_operation_words.specs.Rows.{Field, Form, bare, as_parameter, as_attribute, in_domain, as_name, Place, word_at, each_behind, optional, needed, usual, always, Part}
 use Rattle.kmip_operation_words.specs.Values.{value_of}

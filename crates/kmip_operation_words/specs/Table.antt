@@ -1,5 +1,5 @@
 -- The table of calls.
-use Rattle.std.specs.Prelude.{ℕ, List, [], ◌∷◌, codes, Option, Some, None}
+use Rattle.std.specs.Prelude.{ℕ, List, [], ◌∷◌, codes, Some, None}
 use Rattle.kmip_tags.specs.Tags as tags
 use Rattle.kmip_enums.specs.declared.operation.Operation.TheVariants as operations
 use Rattle.kmip_operation_words.specs.declared.rows.Rest.TheVariants.{Options, Words}

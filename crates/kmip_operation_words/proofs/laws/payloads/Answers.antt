@@ -1,3 +1,4 @@
+use Rattle.kmip_operation_words.proofs.Identifiers.{asked-full}
 use Rattle.kmip_operation_words.proofs.Levels.{asked-low}
 use Rattle.kmip_operation_words.proofs.laws.payloads.Goals as goal
 
@@ -6,3 +7,6 @@ returns-clause-tag c = λ words operation tree is. (asked-low words (operation, 
 
 pub returns-clause-levels : goal.returns-clause-levels
 returns-clause-levels c = λ words operation tree is. (asked-low words (operation, tree) is).0
+
+pub returns-clause-identifiers : goal.returns-clause-identifiers
+returns-clause-identifiers c = λ words operation tree is. asked-full words (operation, tree) is
