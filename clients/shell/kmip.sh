@@ -30,6 +30,8 @@
 # of the payload a file that has it. `version=1.1` stands before the payload, where the request is not to be of KMIP 1.2. The
 # request has eight random bytes as its Unique Batch Item ID, and an answer with another one or with none is that of another
 # call (status 3); `item-id=0102`, also before the payload, is another one.
+# `kmip encrypt ID HEX mode=CBC padding=PKCS5 iv=..` and the other calls that `kmip_call --operations` lists are such operations by
+# words; the answer is the payload as a tree.
 # `kmip message @message.json` sends a whole message as it stands, and answers the whole response. In the place of hex
 # `@data.bin` is a file that has the bytes; `@3` is descriptor 3, up to its end. Payloads, messages and the keys of `register`
 # are in no word of a process.
@@ -113,6 +115,28 @@ kmip_options() { # CALL
     # clients/grammar.py: end
 }
 
+# Whether `kmip_call --operations` lists a call of this name; and the same for its options.
+kmip_is_of_table() { # CALL
+    local cipher=' mode padding hash role signature-algorithm algorithm random-iv iv-length tag-length fixed-field-length'
+    cipher+=' invocation-field-length counter-length initial-counter '
+    case $1 in
+    encrypt | decrypt) KMIP_PLAIN=2 KMIP_OPTIONS=$cipher'iv ' ;;
+    mac) KMIP_PLAIN=2 KMIP_OPTIONS=$cipher ;;
+    mac-verify | verify) KMIP_PLAIN=3 KMIP_OPTIONS=$cipher ;;
+    hash) KMIP_OPTIONS=' hash ' ;;
+    derive-key) KMIP_PLAIN=2 KMIP_OPTIONS=' type hash data salt iterations algorithm length usage name ' ;;
+    rekey | rekey-pair) KMIP_OPTIONS=' offset ' ;;
+    certify) KMIP_OPTIONS=' request-type request name ' ;;
+    recertify) KMIP_OPTIONS=' request-type request offset name ' ;;
+    create-ec) KMIP_PLAIN=3 KMIP_OPTIONS=' algorithm length private-usage public-usage ' ;;
+    create-pair) KMIP_PLAIN=4 KMIP_OPTIONS=' private-usage public-usage ' ;;
+    create-key) KMIP_PLAIN=3 KMIP_OPTIONS=' usage ' ;;
+    check) KMIP_OPTIONS=' count usage lease ' ;;
+    attribute-list | lease | usage-allocation | archive | recover | validate | cancel | poll | rng-seed) ;;
+    *) return 1 ;;
+    esac
+}
+
 # Whether all these words are options, as NAME=TEXT.
 kmip_are_options() { # WORD..
     local word
@@ -150,19 +174,25 @@ kmip_json_words() { # CALL WORD..
     KMIP_WORDS[$# - 1]=@3
 }
 
-# Adds a Unique Batch Item ID to the words of an operation, behind its name, where they have none: eight random bytes, which
-# no answer to another call has. Where the system has none, KMIP_LACKS says so.
+# Leaves in KMIP_ID a Unique Batch Item ID, as a word of a call: eight random bytes, which no answer to another call has. Where
+# the system has none, KMIP_LACKS says so.
+kmip_new_id() {
+    KMIP_ID=$(od -An -N8 -tx1 /dev/urandom) || KMIP_ID=''
+    KMIP_ID=${KMIP_ID//[!0-9a-f]/}
+    ((${#KMIP_ID} == 16)) || KMIP_LACKS='no random bytes for the Unique Batch Item ID: od reads none in /dev/urandom'
+    KMIP_ID=item-id=$KMIP_ID
+}
+
+# Adds a Unique Batch Item ID to the words of an operation, behind its name, where they have none.
 kmip_item_id() {
-    local word id
+    local word KMIP_ID
     # (fewer words are no operation, and the last one is its payload)
     ((${#KMIP_WORDS[@]} > 2)) || return 0
     for word in "${KMIP_WORDS[@]:2:${#KMIP_WORDS[@]}-3}"; do
         if [[ $word == item-id=* ]]; then return 0; fi
     done
-    id=$(od -An -N8 -tx1 /dev/urandom) || id=''
-    id=${id//[!0-9a-f]/}
-    ((${#id} == 16)) || KMIP_LACKS='no random bytes for the Unique Batch Item ID: od reads none in /dev/urandom'
-    KMIP_WORDS=("${KMIP_WORDS[@]:0:2}" "item-id=$id" "${KMIP_WORDS[@]:2}")
+    kmip_new_id
+    KMIP_WORDS=("${KMIP_WORDS[@]:0:2}" "$KMIP_ID" "${KMIP_WORDS[@]:2}")
 }
 
 # The same for bytes in hex, which stand behind so many words: kmip_call reads @FILE, or gets them by a descriptor where they
@@ -203,7 +233,7 @@ kmip_fit() { # WORD..
 
 # Leaves in KMIP_WORDS the words of a call, as kmip_call is to get them. Where they are none, it says so, and its status is 2.
 kmip_words() { # CALL WORD..
-    local word KMIP_WORD KMIP_OPTIONS KMIP_PLAIN
+    local word is_of_table=false KMIP_WORD KMIP_OPTIONS KMIP_PLAIN KMIP_ID
     case ${1-} in
     operation)
         kmip_json_words "$@"
@@ -217,6 +247,7 @@ kmip_words() { # CALL WORD..
     esac
     KMIP_WORDS=("${1-}")
     kmip_options "${1-}"
+    if kmip_is_of_table "${1-}"; then is_of_table=true; fi
     # One word behind `locate` is a name, also with a `=`; before two attributes or more `where` may be left out.
     if [[ ${1-} == locate && ${2-} != where ]]; then KMIP_PLAIN=0; fi
     if [[ ${1-} == locate ]] && (($# < 3)) || ! kmip_are_options "${@:2+KMIP_PLAIN}"; then
@@ -231,9 +262,13 @@ kmip_words() { # CALL WORD..
         KMIP_WORDS+=("$KMIP_WORD")
     done
     case $1 in
-    raw) kmip_bytes_word 1 "$@" ;;
-    sign | register) kmip_bytes_word 2 "$@" ;;
+    raw | hash | rng-seed) kmip_bytes_word 1 "$@" ;;
+    sign | register | encrypt | decrypt | mac | mac-verify | verify) kmip_bytes_word 2 "$@" ;;
     esac
+    if $is_of_table; then
+        kmip_new_id
+        KMIP_WORDS=("$KMIP_ID" "${KMIP_WORDS[@]}")
+    fi
 }
 
 # One line of JSON for a failure that kmip_call cannot tell of.
@@ -591,7 +626,8 @@ kmip_field_program() { # FIELD
 # Whether the answer to a call names what it has made, and has nothing that is secret.
 kmip_makes() { # CALL WORD..
     case $1.${2-} in
-    create.* | create-rsa.* | create-aes.* | register.* | register-*.*) return 0 ;;
+    create.* | create-*.* | register.* | register-*.*) return 0 ;;
+    derive-key.* | certify.* | recertify.* | rekey.* | rekey-pair.*) return 0 ;;
     operation.Create | operation.CreateKeyPair | operation.Register | operation.DeriveKey) return 0 ;;
     operation.Certify | operation.Recertify | operation.Rekey | operation.RekeyKeyPair) return 0 ;;
     *) return 1 ;;

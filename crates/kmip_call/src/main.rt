@@ -10,7 +10,7 @@
 
 mod operation;
 
-use crate::operation::{Wording, file_of_bytes, is_of_table, operations_text, words_for};
+use crate::operation::{Wording, file_of_bytes, is_of_table, operations_text, with_id, words_for};
 use hex::encode;
 use kmip_caller::{
     CLOSED_STREAM, Command, LastError, NO_FILE, NOT_UTF8, Order, Status, WRONG_LIMIT, Watched,
@@ -216,34 +216,35 @@ fn perform(rt: &HostRuntime, order: &Order) -> Status {
     }
 }
 
-/// Puts what files have, in hex, in the place of the words of a call of the table that name them. It
-/// returns why it cannot.
-fn fill_bytes(rt: &HostRuntime, order: &mut Order) -> Result<Option<Text>, OutOfMemory> {
-    let mut words = List::new(rt.alloc());
-    for (place, word) in order.words.as_slice().iter().enumerate() {
-        let Some(name) = file_of_bytes(order.words.as_slice(), place) else {
-            words.push(Text::of(rt.alloc(), word.as_str())?)?;
+/// The words of a call of the table with what files have, in hex, in the place of those that name
+/// them; or why a file cannot be read.
+fn with_bytes(rt: &HostRuntime, words: &[Text]) -> Result<Result<List<Text>, Text>, OutOfMemory> {
+    let mut filled = List::new(rt.alloc());
+    for (place, word) in words.iter().enumerate() {
+        let Some(name) = file_of_bytes(words, place) else {
+            filled.push(Text::of(rt.alloc(), word.as_str())?)?;
             continue;
         };
         match contents_of(rt, name)? {
-            Ok(contents) => words.push(Text::of_string(encode(rt.alloc(), contents)?))?,
-            Err(why) => return Ok(Some(why)),
+            Ok(contents) => filled.push(Text::of_string(encode(rt.alloc(), contents)?))?,
+            Err(why) => return Ok(Err(why)),
         }
     }
-    order.words = words;
-    Ok(None)
+    Ok(Ok(filled))
 }
 
 /// Puts `operation` with a payload in the place of the words of a call of the table. It returns why
 /// it cannot.
 fn reword(rt: &HostRuntime, order: &mut Order) -> Result<Option<Text>, OutOfMemory> {
-    if !is_of_table(order.words.as_slice()) {
+    let (id, words) = with_id(order.words.as_slice());
+    if !is_of_table(words) {
         return Ok(None);
     }
-    if let Some(why) = fill_bytes(rt, order)? {
-        return Ok(Some(why));
-    }
-    match words_for(rt.alloc(), order.words.as_slice())? {
+    let words = match with_bytes(rt, words)? {
+        Ok(words) => words,
+        Err(why) => return Ok(Some(why)),
+    };
+    match words_for(rt.alloc(), id, words.as_slice())? {
         Wording::Same => Ok(None),
         Wording::Words(words) => {
             order.words = words;

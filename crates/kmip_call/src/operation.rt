@@ -21,6 +21,15 @@ pub enum Wording {
     Refused(Text),
 }
 
+/// The words of a call of the table, and before them `item-id=HEX`, where that stands in front: the
+/// Unique Batch Item ID of its request.
+pub fn with_id(words: &[Text]) -> (Option<&Text>, &[Text]) {
+    match words {
+        [first, rest @ ..] if first.as_str().starts_with("item-id=") => (Some(first), rest),
+        _ => (None, words),
+    }
+}
+
 /// Whether the words begin with the name of a call of the table.
 pub fn is_of_table(words: &[Text]) -> bool {
     match words {
@@ -66,8 +75,13 @@ pub fn file_of_bytes(words: &[Text], place: usize) -> Option<&str> {
     word.as_str().strip_prefix('@')
 }
 
-/// The words of `operation` for a call of the table; `None` where they are no call of it.
-fn operation_command(alloc: Global, words: &[Text]) -> Result<Option<List<Text>>, OutOfMemory> {
+/// The words of `operation` for a call of the table, with this ID; `None` where they are no call of
+/// it.
+fn operation_command(
+    alloc: Global,
+    id: Option<&Text>,
+    words: &[Text],
+) -> Result<Option<List<Text>>, OutOfMemory> {
     let Some((operation, payload)) = operation_words(alloc, words)? else {
         return Ok(None);
     };
@@ -80,15 +94,18 @@ fn operation_command(alloc: Global, words: &[Text]) -> Result<Option<List<Text>>
         return Ok(None);
     };
     let mut command = List::new(alloc);
-    for word in ["operation", name, json] {
-        command.push(Text::of(alloc, word)?)?;
+    command.push(Text::of(alloc, "operation")?)?;
+    command.push(Text::of(alloc, name)?)?;
+    if let Some(id) = id {
+        command.push(Text::of(alloc, id.as_str())?)?;
     }
+    command.push(Text::of(alloc, json)?)?;
     Ok(Some(command))
 }
 
 /// What the words of a call of the table are to be.
-pub fn words_for(alloc: Global, words: &[Text]) -> Result<Wording, OutOfMemory> {
-    if let Some(command) = operation_command(alloc, words)? {
+pub fn words_for(alloc: Global, id: Option<&Text>, words: &[Text]) -> Result<Wording, OutOfMemory> {
+    if let Some(command) = operation_command(alloc, id, words)? {
         return Ok(Wording::Words(command));
     }
     match operation_refusal(alloc, words)? {

@@ -40,3 +40,35 @@ verdict 'the table is listed'
 (($(grep -c '^[a-z]' "$said") == $(grep -c '^    [a-z]' "$said") && $(grep -c '^[a-z]' "$said") >= 20))
 verdict 'each call of it has its words and what it asks for'
 says 'as that of encrypt' '^encrypt ID DATA \[mode='
+cmp -s <(request item-id=0102 archive 5) <(request operation Archive item-id=0102 "{\"tag\":\"RequestPayload\",\"value\":[$id]}")
+verdict 'a Unique Batch Item ID stands before the name of a call'
+forms=$("$built/kmip_call" --operations | grep '^[a-z]')
+by_lines() { # TEXT: its words, in order
+    tr -s ' ' '\n' <<<"$1" | sed '/^$/d' | LC_ALL=C sort
+}
+listed() { # FORM: how many words a call of the table has, and its options
+    local words plain
+    words=$(by_lines "$1")
+    plain=$(grep -cE '^[A-Z][A-Z-]*$' <<<"$words") || :
+    printf '%d\n' "$plain"
+    sed -nE 's/^\[?([a-z-]+)=.*/\1/p' <<<"$words" | LC_ALL=C sort
+}
+ours() ( # NAME: the same by the client for bash, which counts the words only where options follow
+    # shellcheck source=clients/shell/kmip.sh
+    . "$top/clients/shell/kmip.sh"
+    kmip_options "$1"
+    kmip_is_of_table "$1" || exit
+    printf '%d\n' "$KMIP_PLAIN"
+    by_lines "$KMIP_OPTIONS"
+)
+differs=''
+while read -r line; do
+    theirs=$(listed "$line") own_words=$(ours "${line%% *}") || differs+=" ${line%% *}"
+    [[ $theirs == "$own_words" || ($theirs != *[a-z]* && $own_words == 1) ]] || differs+=" ${line%% *}"
+done <<<"$forms"
+printf 'not as the table has it:%s\n' "$differs" >"$said"
+[[ -n $forms && -z $differs ]]
+verdict "the client for bash has the table's calls, with their words and options"
+fake good
+script_is 'an Encrypt by words' 0 'open; kmip encrypt "my key" 68656C6C6F mode=CBC padding=PKCS5; kmip_close'
+says 'its answer is the payload of the response' '^\{"answer":\{"tag":"ResponsePayload"'
