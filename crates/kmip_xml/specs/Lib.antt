@@ -1,0 +1,6 @@
+pub mod Given
+pub mod Scan
+pub mod Values
+pub mod Markup
+pub mod Scalars
+pub mod Reading

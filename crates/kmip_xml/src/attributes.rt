@@ -1,0 +1,147 @@
+//! The attributes of an element.
+ghost use Rattle.std.specs.Prelude.{◌≡◌, option_map};
+ghost use Rattle.kmip_xml.specs.Given.{Gives};
+ghost use Rattle.kmip_xml.specs.Markup.{quoted, equals, once, no_attributes, put, attribute};
+ghost use Rattle.kmip_xml.specs.Markup.{attributes};
+
+use crate::error::{XmlError, misfit_at};
+use crate::markup::tag_end;
+use crate::scan::{after, around, spaced, trimmed, word};
+use crate::values::value_of;
+use kmip_wire::Text;
+use std::alloc::Global;
+
+/// The values of attributes that an element may have.
+#[derive(Drop)]
+pub(crate) struct Attributes {
+    pub(crate) tag: Option<Text>,
+    pub(crate) kind: Option<Text>,
+    pub(crate) value: Option<Text>,
+    pub(crate) name: Option<Text>,
+}
+
+/// What stands between two quotes of one kind, and what follows them.
+fn quoted(text: &str) -> Option<(&str, &str)>
+    ensures { option_map (λ parts. (parts.0.now, parts.1.now)) result ≡ quoted text.now }
+{
+    match after("\"", text) {
+        Some(rest) => around('"', rest),
+        None => around('\'', after("'", text)?),
+    }
+}
+
+/// What follows `=`, with white space round it.
+fn equals(text: &str) -> Option<&str>
+    ensures { option_map (λ rest. rest.now) result ≡ equals text.now }
+{
+    Some(trimmed(after("=", trimmed(text))?))
+}
+
+/// The attribute's value, where it has none so far.
+fn once(found: Option<Text>, value: Text) -> Option<Option<Text>>
+    ensures { result ≡ once found value }
+{
+    match found {
+        None => Some(Some(value)),
+        Some(_) => None,
+    }
+}
+
+/// The attributes with one more, which is none of them so far.
+#[tactic(auto, unfolding(crate::specs::Markup::put))]
+fn put(key: &str, value: Text, found: Attributes) -> Option<Attributes>
+    ensures { result ≡ put key.now value found }
+{
+    let Attributes {
+        tag,
+        kind,
+        value: other,
+        name,
+    } = found;
+    match key {
+        "tag" => Some(Attributes {
+            tag: once(tag, value)?,
+            kind,
+            value: other,
+            name,
+        }),
+        "type" => Some(Attributes {
+            tag,
+            kind: once(kind, value)?,
+            value: other,
+            name,
+        }),
+        "value" => Some(Attributes {
+            tag,
+            kind,
+            value: once(other, value)?,
+            name,
+        }),
+        "name" => Some(Attributes {
+            tag,
+            kind,
+            value: other,
+            name: once(name, value)?,
+        }),
+        _ => None,
+    }
+}
+
+/// The attributes with the one at the front.
+#[tactic(auto, unfolding(crate::specs::Markup::attribute))]
+fn attribute<'a>(
+    alloc: Global,
+    found: Attributes,
+    text: &'a str,
+) -> Result<(Attributes, &'a str), XmlError>
+    ensures { Gives (λ x. (x.0, x.1.now)) result (attribute found text.now) }
+{
+    let (key, rest) = word(text);
+    let Some(rest) = equals(rest) else {
+        return Err(XmlError::Misfit(misfit_at(rest, "= and the value of an attribute")));
+    };
+    let Some((raw, rest)) = quoted(rest) else {
+        return Err(XmlError::Misfit(misfit_at(rest, "a value in quotes")));
+    };
+    let value = value_of(alloc, raw)?;
+    match put(key, value, found) {
+        Some(more) => Ok((more, rest)),
+        None => Err(XmlError::Misfit(misfit_at(
+            text,
+            "tag, type, value or name, each at most once",
+        ))),
+    }
+}
+
+/// At most so many attributes more, each behind white space, and then the tag's end.
+fn more_attributes<'a>(
+    alloc: Global,
+    count: u32,
+    found: Attributes,
+    text: &'a str,
+) -> Result<(Attributes, &'a str), XmlError>
+    ensures { Gives (λ x. (x.0, x.1.now)) result (attributes count found text.now) }
+{
+    let rest = trimmed(text);
+    if tag_end(rest).is_some() {
+        return Ok((found, rest));
+    }
+    if count == 0 || spaced(text).is_none() {
+        return Err(XmlError::Misfit(misfit_at(rest, "> or /> or an attribute")));
+    }
+    let (found, rest) = attribute(alloc, found, rest)?;
+    more_attributes(alloc, count - 1, found, rest)
+}
+
+/// The attributes of an element, up to the end of its tag.
+pub(crate) fn all_attributes(alloc: Global, text: &str) -> Result<(Attributes, &str), XmlError>
+    ensures { Gives (λ x. (x.0, x.1.now)) result (attributes 4 no_attributes text.now) }
+{
+    let none = Attributes {
+        tag: None,
+        kind: None,
+        value: None,
+        name: None,
+    };
+    more_attributes(alloc, 4, none, text)
+}
