@@ -1,6 +1,6 @@
 pub mod Framing
 pub mod Pairing
 pub mod Agreeing
-pub mod Telling
+pub mod EqualReports
 pub mod Variants
 pub mod Served

@@ -26,7 +26,7 @@ use Rattle.kmip_client.specs.Client.{loses_connection}
 use Rattle.kmip_client.specs.Outcome.{Answer, Outcome, outcome, outcome_of, answer_of, read_answer}
 use Rattle.kmip_client.specs.Session.{Turn, turn_of, then_on, session, all_sent, all_taken}
 use Rattle.kmip_client.specs.Order.{AreServed, answers_to}
-use Rattle.kmip_client.proofs.Said.{OfMessages, message_says}
+use Rattle.kmip_client.proofs.MessageAnswers.{OfMessages, message_says}
 use Rattle.kmip_client.proofs.Orders.{in_order}
 use Rattle.kmip_audit.specs.Frames.{front_frame, Frames, frames}
 use Rattle.kmip_audit.specs.Outcomes.{request_outcome}

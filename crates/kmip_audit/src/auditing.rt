@@ -43,19 +43,19 @@ pub fn audit(alloc: Global, sent: &[u8], received: &[u8]) -> Result<Report, OutO
 {
     let mut entries = List::new(alloc);
     let mut asked = sent;
-    let mut told = received;
+    let mut answered = received;
     'frames: loop {
         let request = front_frame(asked);
-        let response = front_frame(told);
+        let response = front_frame(answered);
         if are_none(request, response) {
             return Ok(Report {
                 entries,
                 sent_end: end_of(sent, asked),
-                received_end: end_of(received, told),
+                received_end: end_of(received, answered),
             });
         }
         entries.push(entry_for(alloc, request, response)?)?;
         asked = after_frame(asked, request);
-        told = after_frame(told, response);
+        answered = after_frame(answered, response);
     }
 }

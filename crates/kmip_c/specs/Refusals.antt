@@ -1,4 +1,4 @@
--- Why a line is no call, as C is told.
+-- Why a line is no call, as C reads it.
 use Rattle.std.specs.Prelude.{ℕ, ℤ, List, Option, Some, None, if◌then◌else◌}
 use Rattle.std.specs.Option.{option_map}
 use Rattle.std.specs.Str.{is_utf8}
@@ -13,21 +13,21 @@ use Rattle.kmip_c.specs.Codes.{grammar, no_value}
 abbrev pub words_in : List ℕ → Option (List (List ℕ))
 words_in line = if is_utf8 line then words_of line else None
 
--- what is said of words that are no call
-abbrev pub said_of : Option Call → List (List ℕ) → Option (List ℕ)
-said_of (Some call) words = None
-said_of None words = Some (refusal words)
+-- why words are no call
+abbrev pub words_refusal : Option Call → List (List ℕ) → Option (List ℕ)
+words_refusal (Some call) words = None
+words_refusal None words = Some (refusal words)
 
--- what is said of a line: nothing where it is a call; and none where it has not one space between
+-- why a line is no call: nothing where it is a call; and none where it has not one space between
 -- two words
 abbrev pub refusal_in : List ℕ → Option (Option (List ℕ))
-refusal_in line = option_map (λ words. said_of (typed_call words) words) (words_in line)
+refusal_in line = option_map (λ words. words_refusal (typed_call words) words) (words_in line)
 
-abbrev pub IsSaid : Option (Option (List ℕ)) → List ℕ → ℤ → List ℕ → Type 0
-IsSaid (Some said) before result after = IsReported said no_value before result after
-IsSaid None before result after = IsReported None grammar before result after
+abbrev pub IsExplained : Option (Option (List ℕ)) → List ℕ → ℤ → List ℕ → Type 0
+IsExplained (Some text) before result after = IsReported text no_value before result after
+IsExplained None before result after = IsReported None grammar before result after
 
 -- what C gets for a line, memory aside: why it is no call, or that it is one; or that it has not one
 -- space between two words
 abbrev pub IsRefusalReported : List ℕ → List ℕ → ℤ → List ℕ → Type 0
-IsRefusalReported line before result after = IsSaid (refusal_in line) before result after
+IsRefusalReported line before result after = IsExplained (refusal_in line) before result after

@@ -58,7 +58,7 @@ pub fn operation_of(
     operation_of_texts(alloc, name, version, id, payload)
 }
 
-/// What is said of a name, a version and a payload that ask for no call.
+/// Why a name, a version and a payload ask for no call.
 fn why_none(
     alloc: Global,
     name: &[u8],

@@ -299,7 +299,7 @@ fn an_answer_has_the_id_of_its_request(rt: HostRuntime) -> Result<(), Fail> {
     are_answered(&rt, rt.alloc(), IDENTIFIED, IDENTIFIED_ANSWERS)
 }
 
-/// Names, versions and payloads, with what is said of each.
+/// Names, versions and payloads, with the refusal of each.
 const REFUSED: &[(Words, &[u8])] = &[
     (
         Words {
@@ -336,7 +336,7 @@ fn refusal_of(alloc: Global, words: Words, into: &mut [u8]) -> i64 {
 }
 
 #[test]
-fn a_refusal_is_told(rt: HostRuntime) -> Result<(), Fail> {
+fn a_refusal_says_why(rt: HostRuntime) -> Result<(), Fail> {
     for (words, text) in REFUSED {
         let mut into = [7u8; 300];
         let length = refusal_of(rt.alloc(), *words, &mut into);

@@ -77,9 +77,9 @@ fn refusal(alloc: Global, call: &[u8], into: &mut [u8]) -> i64 {
 fn a_line_that_is_no_call_is_explained(rt: HostRuntime) {
     let alloc: Global = rt.alloc();
     let mut into = [0u8; 64];
-    let said = b"the words are not those of rename ID NAME".as_slice();
+    let text = b"the words are not those of rename ID NAME".as_slice();
     assert!(rt; refusal(alloc, b"rename 1", &mut into) == 41);
-    assert!(rt; into.starts_with(said));
+    assert!(rt; into.starts_with(text));
     assert!(rt; into[41] == 0);
     let mut small = [7u8; 40];
     assert!(rt; refusal(alloc, b"rename 1", &mut small) == 41);
@@ -127,7 +127,7 @@ const ANSWERS: &[AnswerRow] = &[
         line: "{\"error\":\"InternalError\",\"text\":\"not a response message\",\"response\":\"7B[]\"}\n",
     },
     AnswerRow {
-        shows: "a reason past the table, with what the server said",
+        shows: "a reason past the table, with the server's message",
         call: "sign k1 00",
         response: "RES2(5C e21,7F e1,7E e12,7D \"no such mechanism\")",
         status: 1,

@@ -11,7 +11,7 @@ use Rattle.kmip_client.specs.Message.{Message, message_at, taken_for, Comes, Rea
 use Rattle.kmip_client.specs.Client.{loses_connection, lacks_memory}
 use Rattle.kmip_client.specs.Outcome.{seen_by, OutcomeOf, outcome_by, answer_by, left_for, Moves, Exchanged, completed, write_failed, read_failed, sending_cut, reading_cut, Gives, reading_answer, Caused, given, no_memory, FailsReading, reading_failed, FailsWriting, writing_failed, read_answer}
 use Rattle.kmip_client.proofs.Messages.{message_short}
-use Rattle.kmip_client.proofs.Said.{OfMessages, message_says}
+use Rattle.kmip_client.proofs.MessageAnswers.{OfMessages, message_says}
 
 append_none : (xs : List ℕ) → xs ≡ xs ++ []
 append_none xs = grind (arith, common_steps)

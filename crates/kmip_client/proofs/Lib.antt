@@ -7,8 +7,8 @@ pub mod Texts
 pub mod Variants
 pub mod Helped
 pub mod Sessions
-pub mod Going
-pub mod Said
+pub mod SessionSteps
+pub mod MessageAnswers
 pub mod Orders
 pub mod Tagged
 pub mod Operations

@@ -17,7 +17,7 @@ use Rattle.kmip_client.specs.Diagnostics.{diagnostic_for}
 use Rattle.kmip_client.specs.Session.{Turn, turn_of, then_on, session, turn_report, response_text_of}
 use Rattle.kmip_client.specs.Order.{AreServed, answers_to}
 use Rattle.kmip_client.specs.Skeletons.{taken_by, AllParse, skeletons_of, texts_of}
-use Rattle.kmip_client.proofs.Said.{OfMessages, message_says}
+use Rattle.kmip_client.proofs.MessageAnswers.{OfMessages, message_says}
 
 -- ---- messages in order
 

@@ -110,7 +110,7 @@ check_item operation item =
     (mismatch_text operation (operation_shown (one_of (field_at 0 item)))))
     else payload_answer (one_of (field_at 5 item))
 
--- what the batch items answer, where it is said whether the header counts one
+-- what the batch items answer, with whether the header counts one
 abbrev pub check_items : Operation → Bool → Vals → Result Val Error
 check_items operation true (AndVal item NoVal) = check_item operation item
 check_items operation _ items = Err (ServerError (count_text (count_of items)))

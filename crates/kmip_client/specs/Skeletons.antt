@@ -1,4 +1,4 @@
--- What the diagnostics of a session tell.
+-- What the diagnostics of a session show.
 use Rattle.std.specs.Prelude.{◌≡◌, ℕ, List, [], ◌∷◌, map, take, Option, Some, true}
 use Rattle.kmip_wire.specs.Bytes.{HasRanges}
 use Rattle.kmip_wire.specs.Tree.{Tree}

@@ -116,7 +116,7 @@ status_answer operation item (Some status) =
     (number_under RESULT_REASON item))
     else Err (InternalError (status_text status))
 
--- what the batch items answer, where it is said whether the header counts one
+-- what the batch items answer, with whether the header counts one
 abbrev pub items_answer : Operation → Bool → List Tree → Result Tree Error
 items_answer operation true (item ∷ []) =
     status_answer operation item (number_under RESULT_STATUS item)

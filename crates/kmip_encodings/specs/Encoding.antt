@@ -44,7 +44,7 @@ value_json tag (byte_string b) = string (encode_upper b)
 value_json tag (date_time n) = string (date_text n)
 value_json tag (interval n) = number (decimal n)
 
--- where an item begins: a number where items' offsets are told, and None where they are not
+-- where an item begins: a number where items' offsets are wanted, and None where they are not
 abbrev pub Offset : Type 0
 Offset = Option ℕ
 
@@ -69,7 +69,7 @@ item_json at tag kind value =
     object (offset_member at (tag_member tag
     (member (codes "type") (string (kind_name kind)) (value_member value))))
 
--- an object of the offset where offsets are told, of the tag, of the type unless it is Structure,
+-- an object of the offset where offsets are wanted, of the tag, of the type unless it is Structure,
 -- and of the value; a structure's value is an array of its items, the first of which begins after
 -- its head of 8 bytes, and each other where the one before it ends
 abbrev mutual

@@ -1,4 +1,4 @@
--- Why a text is not read, told to a person.
+-- Why a text is not read, for a person.
 use Rattle.std.specs.Prelude.{ℕ, List, [], ◌∷◌, ◌++◌, codes}
 use Rattle.std.specs.Fmt.{decimal}
 use Rattle.kmip_encodings.specs.declared.found.Spot.{Spot}

@@ -102,7 +102,7 @@ pub fn enumeration_number(tag: Tag, name: &str) -> Option<u32>
     None
 }
 
-/// How many names of an enumeration are told at most.
+/// How many names of an enumeration are shown at most.
 const FEW: usize = 16;
 
 /// Whether the line has the name that is written of its number, under the tag.

@@ -1,4 +1,4 @@
-//! Why a text is not read, told to a person: where, what was expected and what stands there.
+//! Why a text is not read, for a person: where, what was expected and what stands there.
 ghost use Rattle.std.specs.Fmt.{decimal};
 ghost use Rattle.std.specs.Prelude.{◌≡◌, ◌<◌, ◌++◌, IfOk, OnOk};
 ghost use Rattle.kmip_encodings.specs.Refusals.{dotted, index_text, place_text, path_text};
@@ -27,7 +27,7 @@ pub struct Refusal {
     pub path: Text,
     /// What was expected there, with the names that are known where they are few.
     pub expected: Text,
-    /// What stands there. Of the value of a string or a Big Integer only its form is told, since it
+    /// What stands there. Of the value of a string or a Big Integer only its form is shown, since it
     /// may be a secret.
     pub found: Text,
 }

@@ -88,7 +88,7 @@ fn first_item(at: Option<u64>) -> Option<u64>
     Some(at? + 8)
 }
 
-/// Writes where an item begins, if that is told.
+/// Writes where an item begins, if offsets are wanted.
 fn put_offset(at: Option<u64>, writer: &mut Writer) -> Result<(), OutOfMemory>
     ensures tokens { OnOk result (writer.new.tokens ≡ writer.old.tokens ++ offset_tokens at) }
     ensures before { writer.new.before ≡ writer.old.before }
@@ -250,7 +250,7 @@ fn put_structure(
     Ok(next)
 }
 
-/// Appends the tree's JSON, with offsets from `at` on where that is told.
+/// Appends the tree's JSON, with offsets from `at` on where they are wanted.
 fn append_json(
     alloc: Global,
     at: Option<u64>,

@@ -3,7 +3,7 @@ use Rattle.std.proofs.Common.{◌≡◌, [], pos, refl, sym, subst, false}
 use Rattle.kmip_store.specs.Plain.{PlainMemory}
 use Rattle.kmip_server.specs.Link.{ServerLinkState}
 use Rattle.kmip_server.specs.Split.{messages_in}
-use Rattle.kmip_joined.specs.Told.{IsJoined}
+use Rattle.kmip_joined.specs.Reports.{IsJoined}
 
 -- the link round a server with this maker
 abbrev pub link_over : PlainMemory → ServerLinkState PlainMemory

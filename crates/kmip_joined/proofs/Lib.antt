@@ -1,7 +1,7 @@
-pub mod Own
+pub mod PlainServer
 pub mod Plain
 pub mod Shown
-pub mod Told
+pub mod ReportedCalls
 pub mod Calls
 pub mod Empty
 pub mod Runs

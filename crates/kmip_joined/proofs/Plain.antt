@@ -13,8 +13,8 @@ use Rattle.kmip_server.specs.Link.{ServerLinkState, server_link_state, IsOpen, L
 use Rattle.kmip_server.specs.Joined.{Between}
 use Rattle.kmip_server.specs.OneCall.{between}
 use Rattle.kmip_joined.specs.World.{World, world_of}
-use Rattle.kmip_joined.specs.Told.{HasPlainAnswers}
-use Rattle.kmip_joined.proofs.Own.{Own, owned, own_of, own_serve, asked_by, asked_is, append_none, runs_own, IsOwn}
+use Rattle.kmip_joined.specs.Reports.{HasPlainAnswers}
+use Rattle.kmip_joined.proofs.PlainServer.{Own, owned, own_of, own_serve, asked_by, asked_is, append_none, runs_own, IsOwn}
 
 -- what the server did so far, by the messages alone
 before_own : (link : ServerLinkState PlainMemory) → IsOpen plain_state link

@@ -16,7 +16,7 @@ use Rattle.kmip_server.specs.declared.answers.Answered.{Answered}
 use Rattle.kmip_server.specs.declared.answers.Answered.TheVariants as answered
 use Rattle.kmip_words.specs.Exchange.{answer_line, error_line, value_line, value_in_style, record_in_style, texts_in_style, pair_in_style, is_error}
 use Rattle.kmip_joined.specs.Lines.{line_call}
-use Rattle.kmip_joined.specs.Told.{answered_shown}
+use Rattle.kmip_joined.specs.Reports.{answered_shown}
 
 -- a payload of an operation is a case, in which the two texts stand
 pair_shown : (operation : Operation) (payload : Val) (first second : List ℕ)

@@ -1,3 +1,3 @@
 pub mod Lines
 pub mod World
-pub mod Told
+pub mod Reports

@@ -2,7 +2,7 @@
 ghost use Rattle.std.specs.Prelude.{◌≡◌, IfOk};
 ghost use Rattle.kmip_shape.specs.declared.style.Style.TheVariants.{Bare};
 ghost use Rattle.kmip_words.specs.Exchange.{Shows};
-ghost use Rattle.kmip_joined.specs.Told.{answered_shown, ended_so};
+ghost use Rattle.kmip_joined.specs.Reports.{answered_shown, ended_so};
 
 use kmip_client::Error;
 use kmip_server::Answered;

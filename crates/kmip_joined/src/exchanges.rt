@@ -3,7 +3,7 @@ ghost use Rattle.std.specs.Prelude.{◌≡◌, IfOk, OnOk, option_map};
 ghost use Rattle.kmip_words.specs.Exchange.{settings_of};
 ghost use Rattle.kmip_joined.specs.Lines.{line_call};
 ghost use Rattle.kmip_joined.specs.World.{world_of, joined_step};
-ghost use Rattle.kmip_joined.specs.Told.{IsJoined, IsShown, Runs};
+ghost use Rattle.kmip_joined.specs.Reports.{IsJoined, IsShown, Runs};
 
 use crate::answers::show_answer;
 use crate::made::call_one;

@@ -3,7 +3,7 @@ ghost use Rattle.std.specs.Prelude.{◌≡◌, false, IfOk};
 ghost use Rattle.kmip_server.specs.Link.{LinkFacts};
 ghost use Rattle.kmip_store.specs.Plain.{plain_state};
 ghost use Rattle.kmip_joined.specs.World.{world_of, nothing_yet};
-ghost use Rattle.kmip_joined.specs.Told.{IsJoined, HasPlainAnswers, IsMade};
+ghost use Rattle.kmip_joined.specs.Reports.{IsJoined, HasPlainAnswers, IsMade};
 
 use kmip_client::Client;
 use kmip_server::{Call, CallAnswers, ServerLink, call_all};
@@ -28,8 +28,8 @@ fn has_faulted(client: &mut Client<ServerLink<PlainMaker>>) -> bool
     ensures stays { client.new ≡ client.old }
 {
     let link = client.inner();
-    link.known();
-    link.server().maker().known();
+    link.facts();
+    link.server().maker().numbered();
     link.faulted()
 }
 

@@ -7,7 +7,7 @@ use Rattle.kmip_client.specs.Outcome.{OutcomeOf, Gives, answer_by, outcome_by}
 use Rattle.kmip_enums.specs.declared.operation.Operation.{Operation}
 use Rattle.kmip_words.specs.Exchange.{Settings}
 use Rattle.kmip_words.proofs.Replies.{given_is}
-use Rattle.kmip_operations.specs.Answers.{tree_line, answer_to, tree_ending, outcome_line, outcome_ending, sent_outcome, IsTreeReply, TellsTree}
+use Rattle.kmip_operations.specs.Answers.{tree_line, answer_to, tree_ending, outcome_line, outcome_ending, sent_outcome, IsTreeReply, AddsTreeLine}
 use Rattle.kmip_operations.specs.JsonLines.{IsTextLine}
 use Rattle.kmip_operations.specs.declared.answer.TreeAnswer.{TreeAnswer}
 
@@ -42,18 +42,18 @@ ending_same (Some message) reads settings operation id rest some = refl
 pub due_line : {E : Type 0} (result : Result TreeAnswer E) (operation : Option Operation)
     (id : Option (List ℕ)) (given : Result Tree Error) (first : List ℕ) (due : OutcomeOf Tree) (response : List ℕ)
     → IsTreeReply given first due response →
-    IfOk result (λ answer. TellsTree operation id given first answer.ending [] answer.line.items) →
+    IfOk result (λ answer. AddsTreeLine operation id given first answer.ending [] answer.line.items) →
     IfOk result (λ answer. answer.line.items ≡ outcome_line operation due response)
 due_line (Ok answer) operation id given first due response reply tells =
     let is = reply tells.some in
-    tells.told ∙ ap (λ (a : Result Tree Error). tree_line (answer_to operation a first) first) is.0
+    tells.added ∙ ap (λ (a : Result Tree Error). tree_line (answer_to operation a first) first) is.0
     ∙ ap (λ (f : List ℕ). tree_line (answer_to operation due.answer f) f) is.1
 due_line (Err error) operation id given first due response reply tells = tt
 
 pub due_ending : {E : Type 0} (result : Result TreeAnswer E) (operation : Option Operation)
     (id : Option (List ℕ)) (given : Result Tree Error) (first : List ℕ) (due : OutcomeOf Tree) (response : List ℕ)
     → IsTreeReply given first due response →
-    IfOk result (λ answer. TellsTree operation id given first answer.ending [] answer.line.items) →
+    IfOk result (λ answer. AddsTreeLine operation id given first answer.ending [] answer.line.items) →
     IfOk result (λ answer. answer.ending ≡ outcome_ending operation id due response)
 due_ending (Ok answer) operation id given first due response reply tells =
     let is = reply tells.some in
@@ -63,8 +63,8 @@ due_ending (Err error) operation id given first due response reply tells = tt
 
 pub told_json : {E : Type 0} (result : Result TreeAnswer E) (operation : Option Operation)
     (id : Option (List ℕ)) (given : Result Tree Error) (first : List ℕ) →
-    IfOk result (λ answer. TellsTree operation id given first answer.ending [] answer.line.items) →
+    IfOk result (λ answer. AddsTreeLine operation id given first answer.ending [] answer.line.items) →
     IfOk result (λ answer. IsTextLine answer.line.items)
 told_json (Ok answer) operation id given first tells =
-    let P : List ℕ → Type 0 = IsTextLine in subst P (sym tells.told) tells.json
+    let P : List ℕ → Type 0 = IsTextLine in subst P (sym tells.added) tells.json
 told_json (Err error) operation id given first tells = tt

@@ -51,10 +51,10 @@ IsTreeReply answer first outcome response =
 
 -- the line of this answer to a call of an operation, with this ID, or to a message, was added, where
 -- `first` is the message that was taken, and the answer is not `OutOfMemory`
-pub record TellsTree (operation : Option Operation) (id : Option (List ℕ))
+pub record AddsTreeLine (operation : Option Operation) (id : Option (List ℕ))
     (answer : Result Tree Error) (first : List ℕ) (ending : Ending) (old new : List ℕ) :
     Type 0 where
-  pub told : new ≡ old ++ tree_line (answer_to operation answer first) first
+  pub added : new ≡ old ++ tree_line (answer_to operation answer first) first
   pub ending_is : ending ≡ tree_ending operation id answer first
   pub json : IsTextLine (tree_line (answer_to operation answer first) first)
   pub some : answer ≢ Err OutOfMemory

@@ -6,7 +6,7 @@ ghost use Rattle.kmip_encodings.specs.Encoding.{json_text};
 ghost use Rattle.kmip_words.specs.Exchange.{value_line};
 ghost use Rattle.kmip_operations.specs.Calls.{request_of};
 ghost use Rattle.kmip_operations.specs.Answers.{operation_json_line, operation_ending};
-ghost use Rattle.kmip_operations.specs.Answers.{ending_for, TellsTree};
+ghost use Rattle.kmip_operations.specs.Answers.{ending_for, AddsTreeLine};
 ghost use Rattle.kmip_operations.specs.JsonLines.{IsTextLine};
 
 use crate::call::{OperationCall, id_of};
@@ -60,13 +60,13 @@ fn push_error_line(
     line: &mut Text,
 ) -> Result<Ending, OutOfMemory>
     ensures { IfOk result
-        (λ ending. TellsTree operation None (Err error.now) first.now ending line.old line.new) }
+        (λ ending. AddsTreeLine operation None (Err error.now) first.now ending line.old line.new) }
 {
     lines_are_json();
     line.as_str();
-    let told = show_failure(alloc, operation, error, first, line);
+    let ending = show_failure(alloc, operation, error, first, line);
     line.as_str();
-    told
+    ending
 }
 
 /// Adds an error as a line of JSON, and returns how the call ended. `first` is the message that was
@@ -79,7 +79,7 @@ fn push_error(
     first: &[u8],
     line: &mut Text,
 ) -> Result<Ending, OutOfMemory>
-    ensures { IfOk result (λ ending. TellsTree operation (option_map (λ id. id.now) id.entry)
+    ensures { IfOk result (λ ending. AddsTreeLine operation (option_map (λ id. id.now) id.entry)
         (Err error.now) first.now ending line.old line.new) }
 {
     let ended = push_error_line(alloc, operation, error, first, line)?;
@@ -97,7 +97,7 @@ fn push_answer(
     first: &[u8],
     line: &mut Vec<u8>,
 ) -> Result<Ending, OutOfMemory>
-    ensures { IfOk result (λ ending. TellsTree operation (option_map (λ id. id.now) id.entry) answer
+    ensures { IfOk result (λ ending. AddsTreeLine operation (option_map (λ id. id.now) id.entry) answer
         first.now ending line.old.items line.new.items) }
 {
     lines_are_json();
@@ -127,7 +127,7 @@ pub struct TreeAnswer {
 
 /// How a call of this operation, with this Unique Batch Item ID, ended with this reading of a
 /// response, and its line; of a message of the caller's where both are `None`.
-pub fn told(
+pub fn tree_answer_of(
     alloc: Global,
     operation: Option<Operation>,
     id: Option<&[u8]>,
@@ -135,7 +135,7 @@ pub fn told(
     response: &[u8],
 ) -> Result<TreeAnswer, OutOfMemory>
     requires { reading.taken ≤ length response.now }
-    ensures { IfOk result (λ answer. TellsTree operation (option_map (λ id. id.now) id.entry)
+    ensures { IfOk result (λ answer. AddsTreeLine operation (option_map (λ id. id.now) id.entry)
         reading.answer (take reading.taken response.now) answer.ending [] answer.line.items) }
 {
     let Reading { answer, taken } = reading;
@@ -177,5 +177,5 @@ pub fn operation_answer(
 {
     let id = id_of(call);
     let reading = read_operation_response(alloc, call.operation, id, response, settings.limit());
-    told(alloc, Some(call.operation), id, reading, response)
+    tree_answer_of(alloc, Some(call.operation), id, reading, response)
 }

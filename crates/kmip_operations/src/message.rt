@@ -6,7 +6,7 @@ ghost use Rattle.kmip_operations.specs.Calls.{IsMessageText};
 ghost use Rattle.kmip_operations.specs.Answers.{message_json_line, message_ending};
 ghost use Rattle.kmip_operations.specs.JsonLines.{IsTextLine};
 
-use crate::answer::{TreeAnswer, told};
+use crate::answer::{TreeAnswer, tree_answer_of};
 use crate::call::structure_of;
 use kmip_client::{read_whole_message, write_whole_message};
 use kmip_tags::tags::REQUEST_MESSAGE;
@@ -50,5 +50,5 @@ pub fn message_answer(
     ensures json { IfOk result (λ answer. IsTextLine answer.line.items) }
 {
     let reading = read_whole_message(alloc, response, settings.limit());
-    told(alloc, None, None, reading, response)
+    tree_answer_of(alloc, None, None, reading, response)
 }

@@ -1,4 +1,4 @@
-//! Why a text is no payload and no message, told to a person.
+//! Why a text is no payload and no message, for a person.
 ghost use Rattle.std.specs.Prelude.{IfOk, MatchOption};
 ghost use Rattle.kmip_wire.specs.Tree.{Tree as TheTree};
 ghost use Rattle.kmip_operations.specs.Calls.{IsPayloadText, IsMessageText};

@@ -1,4 +1,4 @@
--- What is said of words that are no call: which of them is wrong, and what may stand there.
+-- Why words are no call: which of them is wrong, and what may stand there.
 use Rattle.std.specs.Prelude.{ℕ, nat_eq, Bool, true, false, ◌||◌, ◌==◌, is_none, is_some, List, [], ◌∷◌, ◌++◌, length, drop, Option, Some, None, if◌then◌else◌, codes, bytes_eq}
 use Rattle.std.specs.List.{find, list_any, starts_with}
 use Rattle.kmip_request_words.specs.Asked.{after_where}
@@ -219,26 +219,26 @@ abbrev pub text_or : Option (List ℕ) → List ℕ → List ℕ
 text_or (Some text) other = text
 text_or None other = other
 
-abbrev pub said_of_call : CallRow → List (List ℕ) → List ℕ
-said_of_call row words = text_or (complaint row words) (not_a_request row.name)
+abbrev pub call_refusal : CallRow → List (List ℕ) → List ℕ
+call_refusal row words = text_or (complaint row words) (not_a_request row.name)
 
 -- ---- all words
 
--- what is said of a word that names no call; an option is not shown, since it may be a password
+-- the refusal of a word that names no call; an option is not shown, since it may be a password
 abbrev pub wrong_name : List ℕ → List ℕ
 wrong_name name =
     if has_equals name then codes "an option is out of its place, or there is none of its name"
     else codes "there is no call " ++ name
 
-abbrev pub said_by : Option CallRow → List ℕ → List (List ℕ) → List ℕ
-said_by (Some row) name words = said_of_call row words
-said_by None name words = wrong_name name
+abbrev pub row_refusal : Option CallRow → List ℕ → List (List ℕ) → List ℕ
+row_refusal (Some row) name words = call_refusal row words
+row_refusal None name words = wrong_name name
 
 abbrev pub not_of_grammar : List (List ℕ) → List ℕ
 not_of_grammar [] = codes "no call is given"
-not_of_grammar (name ∷ words) = said_by (row_of name) name words
+not_of_grammar (name ∷ words) = row_refusal (row_of name) name words
 
--- what is said of words that are no call: why none is made of them, where they ask for what is not
+-- why words are no call: why none is made of them, where they ask for what is not
 -- meant; else which of them is wrong, and what may stand there
 unfoldable pub refusal : List (List ℕ) → List ℕ
 refusal words = text_or (why_refused words) (not_of_grammar words)

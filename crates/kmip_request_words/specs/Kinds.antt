@@ -1,4 +1,4 @@
--- What a word of each kind may be, and what is said of one that is not of its kind.
+-- What a word of each kind may be, and the refusal of one that is not of its kind.
 use Rattle.std.specs.Prelude.{ℕ, Bool, true, false, ◌&&◌, ◌==◌, length, is_some, List, [], ◌∷◌, ◌++◌, map, if◌then◌else◌, codes, bytes_eq}
 use Rattle.std.specs.List.{list_any, list_all}
 use Rattle.kmip_enums.specs.ObjectTypes.{object_type_line, object_type_variants}
@@ -94,7 +94,7 @@ after_names Uses = codes ", with , between two"
 after_names Attribute = codes " with its value"
 after_names kind = []
 
--- what is said of a word that is not of a kind: which names it may be, or what else
+-- the refusal of a word that is not of a kind: which names it may be, or what else
 abbrev pub wanted : Kind → List ℕ
 wanted kind =
     if is_listed kind

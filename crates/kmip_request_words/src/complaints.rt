@@ -1,7 +1,7 @@
-//! What is said of words that are no call: which of them is wrong, and what may stand there.
+//! Why words are no call: which of them is wrong, and what may stand there.
 ghost use Rattle.std.specs.Prelude.{◌≡◌, ◌++◌, codes, map, option_map, IfOk, OnOk};
 ghost use Rattle.kmip_request_words.specs.Grammar.{word_view, option_view, call_view};
-ghost use Rattle.kmip_request_words.specs.Complaints as said;
+ghost use Rattle.kmip_request_words.specs.Complaints as complaints;
 
 use crate::asked::after_where;
 use crate::grammar::{CallRow, Kind, OptionRow, Rest, WordRow, attribute_rows, row_of};
@@ -13,7 +13,7 @@ use std::alloc::Global;
 
 /// What stands after the name of an option, in a word that gives it.
 fn value_after<'a>(name: &str, word: &'a str) -> Option<&'a str>
-    ensures { option_map (λ value. value.now) result ≡ said.value_after name.now word.now }
+    ensures { option_map (λ value. value.now) result ≡ complaints.value_after name.now word.now }
 {
     match word.strip_prefix(name) {
         Some(value) => Some(value),
@@ -24,7 +24,7 @@ fn value_after<'a>(name: &str, word: &'a str) -> Option<&'a str>
 /// The option that a word gives.
 fn option_in<'a>(options: &'a [OptionRow], word: &str) -> Option<&'a OptionRow>
     ensures { option_map (λ option. option_view option.now) result ≡
-        said.option_in (map option_view options.now) word.now }
+        complaints.option_in (map option_view options.now) word.now }
 {
     match options {
         [] => None,
@@ -40,7 +40,7 @@ fn option_in<'a>(options: &'a [OptionRow], word: &str) -> Option<&'a OptionRow>
 
 /// Whether an equals sign is in a word.
 fn has_equals(word: &str) -> bool
-    ensures { result ≡ said.has_equals word.now }
+    ensures { result ≡ complaints.has_equals word.now }
 {
     word.as_bytes().contains(&b'=')
 }
@@ -48,7 +48,7 @@ fn has_equals(word: &str) -> bool
 /// That a word of a call is not of its kind.
 #[tactic(auto, using(std::proofs::lemmas::List::append_assoc))]
 fn not_of(alloc: Global, call: &str, word: &str, kind: Kind) -> Result<Text, OutOfMemory>
-    ensures { IfOk result (λ text. text ≡ said.not_of call.now word.now kind) }
+    ensures { IfOk result (λ text. text ≡ complaints.not_of call.now word.now kind) }
 {
     let mut text = Text::of(alloc, call)?;
     text.push_str(": ")?;
@@ -68,7 +68,7 @@ fn wrong_value(
     value: &str,
 ) -> Result<Option<Text>, OutOfMemory>
     ensures { IfOk result (λ text. text ≡
-        said.wrong_value call.now (option_view option.now) word.now value.now) }
+        complaints.wrong_value call.now (option_view option.now) word.now value.now) }
 {
     if takes(alloc, option.kind, value)? {
         return Ok(None);
@@ -88,7 +88,7 @@ fn wrong_attribute(
     name: &str,
     word: &str,
 ) -> Result<Option<Text>, OutOfMemory>
-    ensures { IfOk result (λ text. text ≡ said.wrong_attribute call.now name.now word.now) }
+    ensures { IfOk result (λ text. text ≡ complaints.wrong_attribute call.now name.now word.now) }
 {
     let Some(option) = option_in(attribute_rows(), word) else {
         return Ok(Some(not_of(alloc, call, name, Kind::Attribute)?));
@@ -106,7 +106,7 @@ fn wrong_attribute(
 
 /// That a second equals sign stands in an attribute's word.
 fn twice_equals(alloc: Global, call: &str, name: &str) -> Result<Text, OutOfMemory>
-    ensures { IfOk result (λ text. text ≡ said.twice_equals call.now name.now) }
+    ensures { IfOk result (λ text. text ≡ complaints.twice_equals call.now name.now) }
 {
     let mut text = Text::of(alloc, call)?;
     text.push_str(": ")?;
@@ -117,7 +117,7 @@ fn twice_equals(alloc: Global, call: &str, name: &str) -> Result<Text, OutOfMemo
 
 /// Whether a word is to be an attribute with its value.
 fn is_attribute(kind: Kind) -> bool
-    ensures { result ≡ said.is_attribute kind }
+    ensures { result ≡ complaints.is_attribute kind }
 {
     match kind {
         Kind::Attribute => true,
@@ -152,7 +152,7 @@ fn wrong_word(
     word: &str,
 ) -> Result<Option<Text>, OutOfMemory>
     ensures { IfOk result (λ text. text ≡
-        said.wrong_word call.now (word_view row.now) word.now) }
+        complaints.wrong_word call.now (word_view row.now) word.now) }
 {
     if is_attribute(row.kind) {
         return wrong_attribute(alloc, call, row.name, word);
@@ -171,7 +171,7 @@ fn wrong_words(
     words: &[Text],
 ) -> Result<Option<Text>, OutOfMemory>
     ensures { IfOk result (λ text. text ≡
-        said.wrong_words call.now (map word_view rows.now) words.now) }
+        complaints.wrong_words call.now (map word_view rows.now) words.now) }
 {
     match rows {
         [] => Ok(None),
@@ -193,7 +193,7 @@ fn wrong_among(
     words: &[Text],
 ) -> Result<Option<Text>, OutOfMemory>
     ensures { IfOk result (λ text. text ≡
-        said.wrong_among call.now (word_view row.now) words.now) }
+        complaints.wrong_among call.now (word_view row.now) words.now) }
 {
     match words {
         [] => Ok(None),
@@ -206,7 +206,7 @@ fn wrong_among(
 
 /// Whether a word is no option of the call.
 fn has_other(options: &[OptionRow], words: &[Text]) -> bool
-    ensures { result ≡ said.has_other (map option_view options.now) words.now }
+    ensures { result ≡ complaints.has_other (map option_view options.now) words.now }
 {
     match words {
         [] => false,
@@ -218,7 +218,7 @@ fn has_other(options: &[OptionRow], words: &[Text]) -> bool
 
 /// Whether two words give a value to this name.
 fn is_twice(name: &str, words: &[Text]) -> bool
-    ensures { result ≡ said.is_twice name.now words.now }
+    ensures { result ≡ complaints.is_twice name.now words.now }
 {
     match words {
         [] => false,
@@ -235,7 +235,7 @@ fn is_twice(name: &str, words: &[Text]) -> bool
 /// Adds the words of a call, as `ID HEX`.
 #[tactic(auto, using(std::proofs::lemmas::List::append_assoc))]
 fn push_words(rows: &[WordRow], text: &mut Text) -> Result<(), OutOfMemory>
-    ensures { OnOk result (text.new ≡ text.old ++ said.words_form (map word_view rows.now)) }
+    ensures { OnOk result (text.new ≡ text.old ++ complaints.words_form (map word_view rows.now)) }
 {
     match rows {
         [] => Ok(()),
@@ -250,7 +250,7 @@ fn push_words(rows: &[WordRow], text: &mut Text) -> Result<(), OutOfMemory>
 /// Adds an option of a call, as `[hash=]`.
 #[tactic(auto, using(std::proofs::lemmas::List::append_assoc))]
 fn push_option(row: &OptionRow, text: &mut Text) -> Result<(), OutOfMemory>
-    ensures { OnOk result (text.new ≡ text.old ++ said.option_form (option_view row.now)) }
+    ensures { OnOk result (text.new ≡ text.old ++ complaints.option_form (option_view row.now)) }
 {
     if row.is_needed {
         text.push_str(" ")?;
@@ -264,7 +264,7 @@ fn push_option(row: &OptionRow, text: &mut Text) -> Result<(), OutOfMemory>
 /// Adds the options of a call, as `[hash=] [padding=]`.
 #[tactic(auto, using(std::proofs::lemmas::List::append_assoc))]
 fn push_options(rows: &[OptionRow], text: &mut Text) -> Result<(), OutOfMemory>
-    ensures { OnOk result (text.new ≡ text.old ++ said.options_form (map option_view rows.now)) }
+    ensures { OnOk result (text.new ≡ text.old ++ complaints.options_form (map option_view rows.now)) }
 {
     match rows {
         [] => Ok(()),
@@ -283,7 +283,7 @@ fn push_tree_form(
     text: &mut Text,
 ) -> Result<(), OutOfMemory>
     ensures { OnOk result (text.new ≡ text.old
-        ++ said.tree_form (map word_view words.now) (map option_view options.now)) }
+        ++ complaints.tree_form (map word_view words.now) (map option_view options.now)) }
 {
     match words {
         [] => Ok(()),
@@ -299,7 +299,7 @@ fn push_tree_form(
 /// Adds what stands after the name of a call.
 #[tactic(auto, using(std::proofs::lemmas::List::append_assoc))]
 fn push_rest(row: &CallRow, text: &mut Text) -> Result<(), OutOfMemory>
-    ensures { OnOk result (text.new ≡ text.old ++ said.rest_form (call_view row.now)) }
+    ensures { OnOk result (text.new ≡ text.old ++ complaints.rest_form (call_view row.now)) }
 {
     match row.rest {
         Rest::Options => {
@@ -321,7 +321,7 @@ fn push_rest(row: &CallRow, text: &mut Text) -> Result<(), OutOfMemory>
 /// Adds a call with its words and options, as `sign ID HEX [hash=]`.
 #[tactic(auto, using(std::proofs::lemmas::List::append_assoc))]
 pub fn push_form(row: &CallRow, text: &mut Text) -> Result<(), OutOfMemory>
-    ensures { OnOk result (text.new ≡ text.old ++ said.form (call_view row.now)) }
+    ensures { OnOk result (text.new ≡ text.old ++ complaints.form (call_view row.now)) }
 {
     text.push_str(row.name)?;
     push_rest(row, text)
@@ -330,7 +330,7 @@ pub fn push_form(row: &CallRow, text: &mut Text) -> Result<(), OutOfMemory>
 /// That the words are not those of a call.
 #[tactic(auto, using(std::proofs::lemmas::List::append_assoc))]
 fn not_words(alloc: Global, row: &CallRow) -> Result<Text, OutOfMemory>
-    ensures { IfOk result (λ text. text ≡ said.not_words (call_view row.now)) }
+    ensures { IfOk result (λ text. text ≡ complaints.not_words (call_view row.now)) }
 {
     let mut text = Text::of(alloc, "the words are not those of ")?;
     push_form(row, &mut text)?;
@@ -339,7 +339,7 @@ fn not_words(alloc: Global, row: &CallRow) -> Result<Text, OutOfMemory>
 
 /// That an option is missing.
 fn missing(alloc: Global, call: &str, name: &str) -> Result<Text, OutOfMemory>
-    ensures { IfOk result (λ text. text ≡ said.missing call.now name.now) }
+    ensures { IfOk result (λ text. text ≡ complaints.missing call.now name.now) }
 {
     let mut text = Text::of(alloc, call)?;
     text.push_str(": ")?;
@@ -350,7 +350,7 @@ fn missing(alloc: Global, call: &str, name: &str) -> Result<Text, OutOfMemory>
 
 /// That an option is given twice.
 fn twice(alloc: Global, call: &str, name: &str) -> Result<Text, OutOfMemory>
-    ensures { IfOk result (λ text. text ≡ said.twice call.now name.now) }
+    ensures { IfOk result (λ text. text ≡ complaints.twice call.now name.now) }
 {
     let mut text = Text::of(alloc, call)?;
     text.push_str(": ")?;
@@ -361,7 +361,7 @@ fn twice(alloc: Global, call: &str, name: &str) -> Result<Text, OutOfMemory>
 
 /// The first word that gives an option.
 fn word_with<'a>(name: &str, words: &'a [Text]) -> Option<&'a str>
-    ensures { option_map (λ word. word.now) result ≡ said.word_with name.now words.now }
+    ensures { option_map (λ word. word.now) result ≡ complaints.word_with name.now words.now }
 {
     match words {
         [] => None,
@@ -383,7 +383,7 @@ fn wrong_given(
     word: &str,
 ) -> Result<Option<Text>, OutOfMemory>
     ensures { IfOk result (λ text. text ≡
-        said.wrong_given call.now (option_view option.now) word.now) }
+        complaints.wrong_given call.now (option_view option.now) word.now) }
 {
     match value_after(option.name, word) {
         Some(value) => wrong_value(alloc, call, option, word, value),
@@ -399,7 +399,7 @@ fn wrong_option(
     words: &[Text],
 ) -> Result<Option<Text>, OutOfMemory>
     ensures { IfOk result (λ text. text ≡
-        said.wrong_option call.now (option_view option.now) words.now) }
+        complaints.wrong_option call.now (option_view option.now) words.now) }
 {
     if is_twice(option.name, words) {
         return Ok(Some(twice(alloc, call, option.name)?));
@@ -423,7 +423,7 @@ fn wrong_options(
     words: &[Text],
 ) -> Result<Option<Text>, OutOfMemory>
     ensures { IfOk result (λ text. text ≡
-        said.wrong_options call.now (map option_view options.now) words.now) }
+        complaints.wrong_options call.now (map option_view options.now) words.now) }
 {
     match options {
         [] => Ok(None),
@@ -437,7 +437,7 @@ fn wrong_options(
 /// The words that stand after those of a call.
 fn words_after<'a>(rows: &[WordRow], words: &'a [Text]) -> Option<&'a [Text]>
     ensures { option_map (λ rest. rest.now) result ≡
-        said.words_after (map word_view rows.now) words.now }
+        complaints.words_after (map word_view rows.now) words.now }
 {
     match rows {
         [] => Some(words),
@@ -454,7 +454,7 @@ fn wrong_with_options(
     row: &CallRow,
     words: &[Text],
 ) -> Result<Option<Text>, OutOfMemory>
-    ensures { IfOk result (λ text. text ≡ said.wrong_with_options (call_view row.now) words.now) }
+    ensures { IfOk result (λ text. text ≡ complaints.wrong_with_options (call_view row.now) words.now) }
 {
     let Some(options) = words_after(row.words, words) else {
         return Ok(Some(not_words(alloc, row)?));
@@ -480,7 +480,7 @@ fn wrong_with_names(
     row: &CallRow,
     words: &[Text],
 ) -> Result<Option<Text>, OutOfMemory>
-    ensures { IfOk result (λ text. text ≡ said.wrong_with_names (call_view row.now) words.now) }
+    ensures { IfOk result (λ text. text ≡ complaints.wrong_with_names (call_view row.now) words.now) }
 {
     let Some(names) = words_after(row.words, words) else {
         return Ok(Some(not_words(alloc, row)?));
@@ -504,7 +504,7 @@ fn wrong_with_attributes(
     words: &[Text],
 ) -> Result<Option<Text>, OutOfMemory>
     ensures { IfOk result (λ text. text ≡
-        said.wrong_with_attributes (call_view row.now) words.now) }
+        complaints.wrong_with_attributes (call_view row.now) words.now) }
 {
     match words {
         [_] => wrong_words(alloc, row.name, row.words, words),
@@ -514,7 +514,7 @@ fn wrong_with_attributes(
 
 /// What is wrong with the words of a call.
 fn complaint(alloc: Global, row: &CallRow, words: &[Text]) -> Result<Option<Text>, OutOfMemory>
-    ensures { IfOk result (λ text. text ≡ said.complaint (call_view row.now) words.now) }
+    ensures { IfOk result (λ text. text ≡ complaints.complaint (call_view row.now) words.now) }
 {
     match row.rest {
         Rest::Options => wrong_with_options(alloc, row, words),
@@ -527,16 +527,16 @@ fn complaint(alloc: Global, row: &CallRow, words: &[Text]) -> Result<Option<Text
 /// That bytes are not a request.
 #[tactic(auto, using(std::proofs::lemmas::List::append_assoc))]
 fn not_a_request(alloc: Global, call: &str) -> Result<Text, OutOfMemory>
-    ensures { IfOk result (λ text. text ≡ said.not_a_request call.now) }
+    ensures { IfOk result (λ text. text ≡ complaints.not_a_request call.now) }
 {
     let mut text = Text::of(alloc, call)?;
     text.push_str(": the bytes are not the one canonical message of a request")?;
     Ok(text)
 }
 
-/// What is said of the words of a call.
-fn said_of_call(alloc: Global, row: &CallRow, words: &[Text]) -> Result<Text, OutOfMemory>
-    ensures { IfOk result (λ text. text ≡ said.said_of_call (call_view row.now) words.now) }
+/// Why words after a call's name are no call.
+fn call_refusal(alloc: Global, row: &CallRow, words: &[Text]) -> Result<Text, OutOfMemory>
+    ensures { IfOk result (λ text. text ≡ complaints.call_refusal (call_view row.now) words.now) }
 {
     match complaint(alloc, row, words)? {
         Some(text) => Ok(text),
@@ -544,9 +544,9 @@ fn said_of_call(alloc: Global, row: &CallRow, words: &[Text]) -> Result<Text, Ou
     }
 }
 
-/// What is said of a word that names no call. An option is not shown, since it may be a password.
+/// That a word names no call. An option is not shown, since it may be a password.
 fn wrong_name(alloc: Global, name: &str) -> Result<Text, OutOfMemory>
-    ensures { IfOk result (λ text. text ≡ said.wrong_name name.now) }
+    ensures { IfOk result (λ text. text ≡ complaints.wrong_name name.now) }
 {
     if has_equals(name) {
         return Text::of(
@@ -559,21 +559,21 @@ fn wrong_name(alloc: Global, name: &str) -> Result<Text, OutOfMemory>
     Ok(text)
 }
 
-/// What is said of words that are not of the grammar: that there are none, that the first one names
+/// Why words are not of the grammar: that there are none, that the first one names
 /// no call, or which of the others is wrong.
 fn not_of_grammar(alloc: Global, words: &[Text]) -> Result<Text, OutOfMemory>
-    ensures { IfOk result (λ text. text ≡ said.not_of_grammar words.now) }
+    ensures { IfOk result (λ text. text ≡ complaints.not_of_grammar words.now) }
 {
     let [name, rest @ ..] = words else {
         return Text::of(alloc, "no call is given");
     };
     match row_of(name.as_str()) {
-        Some(row) => said_of_call(alloc, row, rest),
+        Some(row) => call_refusal(alloc, row, rest),
         None => wrong_name(alloc, name.as_str()),
     }
 }
 
-/// What is said of words that are no call: why none is made of them, where they ask for what is not
+/// Why words are no call: why none is made of them, where they ask for what is not
 /// meant; else which of them is wrong, and what may stand there. A word whose value is to be one of
 /// several names is shown, and no other but the call's name.
 ///
@@ -581,7 +581,7 @@ fn not_of_grammar(alloc: Global, words: &[Text]) -> Result<Text, OutOfMemory>
 /// not the one canonical message of a request.
 #[tactic(auto, unfolding(crate::specs::Complaints::refusal))]
 pub fn refusal_of(alloc: Global, words: &[Text]) -> Result<Text, OutOfMemory>
-    ensures { IfOk result (λ text. text ≡ said.refusal words.now) }
+    ensures { IfOk result (λ text. text ≡ complaints.refusal words.now) }
 {
     match why_refused(words) {
         Some(text) => Text::of(alloc, text),

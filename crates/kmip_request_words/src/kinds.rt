@@ -1,4 +1,4 @@
-//! What a word of each kind may be, and what is said of one that is not of its kind.
+//! What a word of each kind may be, and the refusal of one that is not of its kind.
 ghost use Rattle.std.specs.Prelude.{◌≡◌, ◌++◌, map, is_some, IfOk, OnOk};
 ghost use Rattle.kmip_request_words.specs.Values.{word_text, bytes_of};
 ghost use Rattle.kmip_request_words.specs.Grammar.{option_view};
@@ -265,7 +265,7 @@ fn push_listed(names: &[Text], text: &mut Text) -> Result<(), OutOfMemory>
     }
 }
 
-/// What is said of a word that is not of a kind which has no names.
+/// The refusal of a word that is not of a kind which has no names.
 fn plain_wanted(kind: Kind) -> &'static str
     ensures { result.now ≡ plain_wanted kind }
 {
@@ -295,7 +295,7 @@ fn plain_wanted(kind: Kind) -> &'static str
     }
 }
 
-/// What is said after the names of a kind.
+/// What a refusal adds after the names of a kind.
 fn after_names(kind: Kind) -> &'static str
     ensures { result.now ≡ after_names kind }
 {
@@ -324,7 +324,7 @@ fn after_names(kind: Kind) -> &'static str
     }
 }
 
-/// Adds what is said of a word that is not of a kind.
+/// Adds the refusal of a word that is not of a kind.
 #[tactic(auto, using(std::proofs::lemmas::List::append_assoc))]
 pub fn push_wanted(alloc: Global, kind: Kind, text: &mut Text) -> Result<(), OutOfMemory>
     ensures { OnOk result (text.new ≡ text.old ++ wanted kind) }

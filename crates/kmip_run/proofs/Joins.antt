@@ -5,7 +5,7 @@ use Rattle.kmip_words.specs.Exchange.{Settings, call_text}
 use Rattle.kmip_words.specs.declared.call.Call.{Call}
 use Rattle.kmip_joined.specs.Lines.{helper_call}
 use Rattle.kmip_joined.specs.World.{World, Joined, joined_step}
-use Rattle.kmip_joined.specs.Told.{Runs}
+use Rattle.kmip_joined.specs.Reports.{Runs}
 use Rattle.kmip_run.specs.Transcript.{Transcript, only_text, bad_line, then_text, end_after, joined}
 use Rattle.kmip_run.specs.declared.status.ScriptEnd.{ScriptEnd}
 use Rattle.kmip_run.specs.declared.status.Status.TheVariants.{Ended}

@@ -1,6 +1,6 @@
 pub mod Audited
 pub mod Explained
-pub mod Given
+pub mod Options
 pub mod Joins
 pub mod Lines
 pub mod Makes
@@ -9,5 +9,5 @@ pub mod Replayed
 pub mod Pieces
 pub mod Whole
 pub mod SentBytes
-pub mod Tellings
+pub mod SkeletonsShown
 pub mod Captured

@@ -8,5 +8,5 @@ pub mod Program
 pub mod Records
 pub mod Performed
 pub mod Sent
-pub mod Told
+pub mod Skeletons
 pub mod Reported

@@ -6,7 +6,7 @@ ghost use Rattle.kmip_run.specs.Transcript.{joined};
 ghost use Rattle.kmip_run.specs.declared.status.ScriptEnd.TheVariants.{Answered};
 ghost use Rattle.kmip_run.specs.declared.status.Status.TheVariants.{Ended};
 ghost use Rattle.kmip_words.specs.Exchange.{settings_of};
-ghost use Rattle.kmip_joined.specs.Told.{IsJoined};
+ghost use Rattle.kmip_joined.specs.Reports.{IsJoined};
 ghost use Rattle.kmip_joined.specs.World.{nothing_yet, world_of};
 
 use crate::command::Options;

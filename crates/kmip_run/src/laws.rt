@@ -24,7 +24,7 @@ ghost use Rattle.kmip_run.specs.Records.{AreRecords, ReplaysEach, script_of};
 ghost use Rattle.kmip_run.specs.Reported.{ReportsTurns};
 ghost use Rattle.kmip_run.specs.Sent.{messages_of, AreHeld, IsSent, GivesBack};
 ghost use Rattle.kmip_run.specs.Script.{lines_of};
-ghost use Rattle.kmip_run.specs.Told.{AllAnswered, skeletons_in};
+ghost use Rattle.kmip_run.specs.Skeletons.{AllAnswered, skeletons_in};
 ghost use Rattle.kmip_run.specs.Transcript.{replay_from};
 ghost use Rattle.kmip_run.specs.declared.status.ScriptEnd.TheVariants.{Answered};
 

@@ -31,7 +31,7 @@ use Rattle.kmip_server.proofs.Steps.{after_bytes, next_formed, same_next, same_b
 use Rattle.kmip_client.specs.declared.error.Error.{Error}
 use Rattle.kmip_store.specs.Makers.{MakerState}
 use Rattle.kmip_store.specs.Runs.{objects_after}
-use Rattle.kmip_server.proofs.Going.{finish_cons, finish_end, between_new, open_new}
+use Rattle.kmip_server.proofs.CallSteps.{finish_cons, finish_end, between_new, open_new}
 use Rattle.kmip_server.proofs.Chain.{ran_texts, ran_requests}
 use Rattle.kmip_server.specs.Link.{ServerLinkState, server_link_state, IsOpen}
 use Rattle.kmip_server.specs.OneCall.{between, CallsEnd}

@@ -10,7 +10,7 @@ pub mod Cutting
 pub mod Accepts
 pub mod Opened
 pub mod Cuts
-pub mod Going
+pub mod CallSteps
 pub mod ReadBack
 pub mod Ones
 pub mod Chain

@@ -57,7 +57,7 @@ pub fn sent_len<M: Maker>(client: &mut Client<ServerLink<M>>) -> usize
     ensures stays { client.new ≡ client.old }
 {
     let link = client.inner();
-    link.known();
+    link.facts();
     link.sent().len()
 }
 
@@ -68,7 +68,7 @@ fn link_after<M: Maker>(client: &mut Client<ServerLink<M>>) -> LinkAfter
     ensures stays { client.new ≡ client.old }
 {
     let link = client.inner();
-    link.known();
+    link.facts();
     if link.starved() {
         LinkAfter::Starved
     } else if link.faulted() {
@@ -181,7 +181,7 @@ fn reads_back<T>(
 {
     request_is_read();
     helper_is_matched();
-    client.known();
+    client.fits();
     call_known(alloc, call)
 }
 

@@ -121,7 +121,7 @@ impl<M: Maker> ServerLink<M> {
     }
 
     /// What holds of each link.
-    pub fn known(&self)
+    pub fn facts(&self)
         ensures { LinkFacts M.state self.now }
     {
         let _ = &self.pos;

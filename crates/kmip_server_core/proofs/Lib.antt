@@ -1,6 +1,6 @@
 pub mod Writing
 pub mod Answering
-pub mod Foretold
+pub mod Changes
 pub mod Pairs
 pub mod Refused
 pub mod Requested

@@ -1,4 +1,4 @@
--- What a call of the store returns and leaves, said by its step.
+-- What a call of the store returns and leaves, by its step.
 use Rattle.std.specs.Prelude.{◌≡◌, List, Option, Some, None, Bool, true, false, Result, Ok, Err, IsTrue}
 use Rattle.kmip_store.specs.declared.object.Object.{Object}
 use Rattle.kmip_store.specs.declared.error.StoreError.{StoreError}

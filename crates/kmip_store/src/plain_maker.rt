@@ -58,7 +58,7 @@ impl PlainMaker {
     }
 
     /// Its answers are made from their numbers: this holds of each. It takes no memory.
-    pub fn known(&self)
+    pub fn numbered(&self)
         ensures { self.now.given ≡ plain_answers 0 self.now.asked }
     {
         let _ = &self.asked;

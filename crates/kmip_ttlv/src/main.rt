@@ -51,7 +51,7 @@ fn complain(rt: &HostRuntime, input: &[u8], failure: &Failure) -> u8 {
     let Ok(text) = message(rt.alloc(), input, failure) else {
         return 5;
     };
-    let _told = rt.stderr().write_all(text.as_str().as_bytes());
+    let _written = rt.stderr().write_all(text.as_str().as_bytes());
     1
 }
 
@@ -60,7 +60,7 @@ fn run(rt: &HostRuntime) -> u8 {
         return 5;
     };
     let Some(command) = command_of(words.as_slice()) else {
-        let _told = rt.stderr().write_all(HELP.as_bytes());
+        let _written = rt.stderr().write_all(HELP.as_bytes());
         return 2;
     };
     let mut input = Vec::new(rt.alloc());

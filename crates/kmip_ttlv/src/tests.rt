@@ -1,4 +1,4 @@
-//! What no contract says: each command succeeds where there is memory, and failures are told.
+//! What no contract says: each command succeeds where there is memory, and failures are reported.
 use crate::messages::message;
 use crate::program::{Command, Failure, transcode};
 use kmip_faults::{fault_of, fault_text};
@@ -30,7 +30,7 @@ fn items_are_decoded_and_encoded(rt: HostRuntime) {
     is_made(&rt, alloc, Command::Encode, JSON.as_bytes(), DIGITS);
 }
 
-/// Commands, inputs that are not transcoded, and what is said of them.
+/// Commands, inputs that are not transcoded, and the error of each.
 const FAILURES: &[(Command, &[u8], &str)] = &[
     (
         Command::DecodeJson,
@@ -88,13 +88,13 @@ const FAILURES: &[(Command, &[u8], &str)] = &[
 /// The command fails on its input with this message.
 fn fails_with(rt: &impl Abort, alloc: Global, command: Command, input: &[u8], text: &str) {
     let failure = transcode(alloc, command, input).err().expect(rt, text);
-    let said = message(alloc, input, &failure).expect(rt, "memory");
+    let shown = message(alloc, input, &failure).expect(rt, "memory");
     drop(failure);
-    assert_eq!(rt; said.as_str(), text);
+    assert_eq!(rt; shown.as_str(), text);
 }
 
 #[test]
-fn failures_are_told(rt: HostRuntime) {
+fn failures_are_reported(rt: HostRuntime) {
     for (command, input, text) in FAILURES {
         fails_with(&rt, rt.alloc(), *command, input, text);
     }

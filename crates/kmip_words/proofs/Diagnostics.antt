@@ -6,8 +6,8 @@ use Rattle.kmip_client.specs.declared.error.Error.TheVariants.{SerializeError, R
 use Rattle.kmip_client.specs.Message.{Message, message_at}
 use Rattle.kmip_client.specs.Outcome.{Answer, outcome_of, answer_of}
 use Rattle.kmip_client.specs.Diagnostics.{diagnostic_of, diagnostic_for, IsRequestText, IsResponseText, has_response}
-use Rattle.kmip_client.proofs.Said.{OfMessages, message_says}
-use Rattle.kmip_words.specs.Exchange.{told_lines}
+use Rattle.kmip_client.proofs.MessageAnswers.{OfMessages, message_says}
+use Rattle.kmip_words.specs.Exchange.{diagnostic_lines}
 
 -- what a message answers shows that it was read
 
@@ -58,8 +58,8 @@ pub told_of : (buffered : Bool) (request : Option (List ℕ)) (operation : Opera
     answer ≡ (outcome_of request operation limit rest).answer → answer ≢ Err OutOfMemory
     → n ≡ (outcome_of request operation limit rest).taken →
     IsRequestText buffered request answer sent_text → IsResponseText buffered (take n rest) answer taken_text →
-    told_lines buffered sent_text taken_text
-    ≡ told_lines buffered (Some (diagnostic (Some 0x4200)
+    diagnostic_lines buffered sent_text taken_text
+    ≡ diagnostic_lines buffered (Some (diagnostic (Some 0x4200)
     (outcome_of request operation limit rest).sent))
     (Some (diagnostic (Some 0x4200)
     (take (outcome_of request operation limit rest).taken rest)))

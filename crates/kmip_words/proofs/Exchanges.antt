@@ -15,7 +15,7 @@ use Rattle.kmip_client.specs.declared.error.Error.TheVariants.{OutOfMemory}
 use Rattle.kmip_client.specs.Outcome.{Answer, Outcome, outcome, outcome_of, Moves, Exchanged}
 use Rattle.kmip_client.specs.Calls.{IsCall}
 use Rattle.kmip_client.specs.Client.{ClientState, IsOfOperation}
-use Rattle.kmip_words.specs.Exchange.{Settings, Asked, asked_of, IsRequestOf, operation_asked, value_in_style, answer_line, is_error, loses_link, ending_of, fails, settings_of, call_outcome, step_in, step_of, told_lines, Shows, Answers}
+use Rattle.kmip_words.specs.Exchange.{Settings, Asked, asked_of, IsRequestOf, operation_asked, value_in_style, answer_line, is_error, loses_link, ending_of, fails, settings_of, call_outcome, step_in, step_of, diagnostic_lines, Shows, Answers}
 use Rattle.kmip_words.specs.About.{IsReply}
 use Rattle.kmip_words.specs.declared.ending.Ending.{Ending}
 use Rattle.kmip_words.specs.declared.ending.Ending.TheVariants.{Lost, Refused}
@@ -78,9 +78,9 @@ answered {before = before} {after = after} style call payload answer ending old 
     (outcome_of it.message it.operation before.limit left)) before after ending old new in
     subst P (makes before.credential) (record {
       settings = rw (is_call.credential, is_call.limit, is_call.buffered) refl;
-      told = rw is_call.buffered (subst (λ (l : List ℕ).
-          told_lines before.buffered after.request_text after.response_text
-          ≡ (step_of (told_in style call) style before.buffered l (o l)).told) here told);
+      diagnostics = rw is_call.buffered (subst (λ (l : List ℕ).
+          diagnostic_lines before.buffered after.request_text after.response_text
+          ≡ (step_of (told_in style call) style before.buffered l (o l)).diagnostics) here told);
       shown = text ∙ ap (λ (a : Answer). old ++ answer_line (told_in style call) style a) is;
       failed_is = ap fails ends ∙ fails_is (o left).answer;
       ending_is = ends;

@@ -1,6 +1,6 @@
 pub mod Tagged
 pub mod Foreign
-pub mod Told
+pub mod AnswerLines
 pub mod Added
 pub mod LineCalls
 pub mod Diagnostics

@@ -133,7 +133,7 @@ objection call payload =
     if is_about_another call payload then Some (codes "answer for another object")
     else call_lack call payload
 
--- ---- what is told
+-- ---- what is answered
 
 abbrev pub answer_or : Option (List ℕ) → Val → Answer
 answer_or (Some text) payload = Err (InternalError text)
@@ -169,15 +169,15 @@ line_with call (Err error) response = failure_line error response
 
 -- the line of this answer, of which `Is` holds, was added, where `first` is the response's first
 -- message, and the answer is not `OutOfMemory`
-pub record TellsAs (Is : List ℕ → Type 0) (call : Call) (answer : Answer) (first : List ℕ)
+pub record AddsLineAs (Is : List ℕ → Type 0) (call : Call) (answer : Answer) (first : List ℕ)
     (ending : Ending) (old new : List ℕ) : Type 0 where
-  pub told : new ≡ old ++ line_with call (answer_about call answer first) first
+  pub added : new ≡ old ++ line_with call (answer_about call answer first) first
   pub ending_is : ending ≡ ending_about call answer first
   pub json : Is (line_with call (answer_about call answer first) first)
   pub some : answer ≢ Err OutOfMemory
 
-abbrev pub Tells : Call → Answer → List ℕ → Ending → List ℕ → List ℕ → Type 0
-Tells = TellsAs IsJsonLine
+abbrev pub AddsLine : Call → Answer → List ℕ → Ending → List ℕ → List ℕ → Type 0
+AddsLine = AddsLineAs IsJsonLine
 
 -- the line of JSON that says what an outcome over these bytes answers to a call
 abbrev pub outcome_line : Call → Outcome → List ℕ → List ℕ

@@ -194,31 +194,31 @@ or_empty (Some text) = text
 or_empty None = []
 
 -- the lines of the diagnostics of a request and of its response, where they are kept
-abbrev pub told_lines : Bool → Option (List ℕ) → Option (List ℕ) → List ℕ
-told_lines true request response =
+abbrev pub diagnostic_lines : Bool → Option (List ℕ) → Option (List ℕ) → List ℕ
+diagnostic_lines true request response =
     codes ">~ " ++ (or_empty request ++ (codes "\n<~ " ++ (or_empty response ++ codes "\n")))
-told_lines false request response = []
+diagnostic_lines false request response = []
 
 -- what a call sends and how many bytes it takes, the lines of its diagnostics and of its answer,
 -- whether the answer is an error, and how the call ends
 pub record Step : Type 0 where
   pub sent : List ℕ
   pub taken : ℕ
-  pub told : List ℕ
+  pub diagnostics : List ℕ
   pub shown : List ℕ
   pub failed : Bool
   pub ending : Ending
 
 -- the lines of a call: what it sent, its diagnostics and its answer
 abbrev pub call_text : Step → List ℕ
-call_text s = codes "> " ++ (encode_upper s.sent ++ (codes "\n" ++ (s.told ++ s.shown)))
+call_text s = codes "> " ++ (encode_upper s.sent ++ (codes "\n" ++ (s.diagnostics ++ s.shown)))
 
 -- the step with this outcome; its diagnostics are those of the bytes sent and of the bytes taken
 abbrev pub step_of : (Val → List ℕ) → Style → Bool → List ℕ → Outcome → Step
 step_of value style buffered rest o = record {
   sent = o.sent;
   taken = o.taken;
-  told = told_lines buffered (Some (diagnostic (Some 0x4200) o.sent))
+  diagnostics = diagnostic_lines buffered (Some (diagnostic (Some 0x4200) o.sent))
       (Some (diagnostic (Some 0x4200) (take o.taken rest)));
   shown = answer_line value style o.answer;
   failed = is_error o.answer;
@@ -253,7 +253,7 @@ pub record Shows {R : Type 0} (value : R → List ℕ) (style : Style) (answer :
 pub record Answers (s : Step) (before after : ClientState MemoryState) (ending : Ending)
     (old new : List ℕ) : Type 0 where
   pub settings : settings_of after ≡ settings_of before
-  pub told : told_lines after.buffered after.request_text after.response_text ≡ s.told
+  pub diagnostics : diagnostic_lines after.buffered after.request_text after.response_text ≡ s.diagnostics
   pub shown : new ≡ old ++ s.shown
   pub failed_is : fails ending ≡ s.failed
   pub ending_is : ending ≡ s.ending

@@ -51,16 +51,16 @@ name_or_number (Some operation) number = (operation_line operation).name
 name_or_number None number = decimal number
 
 -- an operation by its number, as texts show it: its name, or its number where it is in no table
-abbrev pub operation_told : Option ℕ → List ℕ
-operation_told (Some number) =
+abbrev pub operation_text : Option ℕ → List ℕ
+operation_text (Some number) =
     name_or_number (variant_at operation_line operation_variants number) number
-operation_told None = codes "None"
+operation_text None = codes "None"
 
--- what is said of a failure of another operation, where the batch item reports one
+-- the error for a failure of another operation, where the batch item reports one
 abbrev pub other_failure : Operation → Option Tree → Option (List ℕ)
 other_failure operation (Some item) =
     if reports_failure item && not (is_item_of operation item)
-    then Some (mismatch_text operation (operation_told (number_under OPERATION item)))
+    then Some (mismatch_text operation (operation_text (number_under OPERATION item)))
     else None
 other_failure operation None = None
 

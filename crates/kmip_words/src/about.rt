@@ -157,7 +157,7 @@ fn is_wrapped(payload: &ResponsePayload) -> bool
     }
 }
 
-/// What is said of a pair that is one key.
+/// Why a pair that is one key is refused.
 const ONE_KEY: &str = "answer with one identifier for two keys";
 
 /// What an answer to a request lacks.

@@ -1,7 +1,7 @@
 //! The lines of what a call sent, and of its diagnostics.
 ghost use Rattle.std.specs.Prelude.{◌≡◌, ◌++◌, codes, option_map, OnOk};
 ghost use Rattle.hex.specs.Hex.{encode_upper};
-ghost use Rattle.kmip_words.specs.Exchange.{or_empty, told_lines};
+ghost use Rattle.kmip_words.specs.Exchange.{or_empty, diagnostic_lines};
 
 use kmip_wire::{OutOfMemory, Text};
 use std::alloc::Global;
@@ -37,7 +37,7 @@ pub fn show_diagnostics(
     response: Option<&str>,
     output: &mut Text,
 ) -> Result<(), OutOfMemory>
-    ensures { OnOk result (output.new ≡ output.old ++ told_lines diag
+    ensures { OnOk result (output.new ≡ output.old ++ diagnostic_lines diag
         (option_map (λ text. text.now) request.entry)
         (option_map (λ text. text.now) response.entry)) }
 {

@@ -8,7 +8,7 @@ ghost use Rattle.kmip_client.specs.Client.{credential_for, IsOfOperation};
 ghost use Rattle.kmip_client.specs.Outcome.{answer_with_payload};
 ghost use Rattle.kmip_words.specs.Exchange.{Settings as TheSettings, request_asked};
 ghost use Rattle.kmip_words.specs.Exchange.{operation_asked};
-ghost use Rattle.kmip_words.specs.About.{TellsAs, Tells, response_line, response_ending};
+ghost use Rattle.kmip_words.specs.About.{AddsLineAs, AddsLine, response_line, response_ending};
 ghost use Rattle.kmip_words.specs.JsonLines.{IsGrammarLine, IsJsonLine};
 
 use crate::about::objection;
@@ -106,7 +106,7 @@ pub fn request_of(
 
 /// Adds the line of a payload that a call is answered with, or of why it is no answer, and returns
 /// how the call ended. `first` is the first message of the response.
-fn tell_payload(
+fn add_payload_line(
     alloc: Global,
     call: &Call,
     payload: &ResponsePayload,
@@ -114,7 +114,7 @@ fn tell_payload(
     line: &mut Text,
 ) -> Result<Ending, OutOfMemory>
     requires { IsOfOperation (operation_asked call.now) (response_payload_val payload.now) }
-    ensures { IfOk result (λ ending. TellsAs IsGrammarLine call.now
+    ensures { IfOk result (λ ending. AddsLineAs IsGrammarLine call.now
         (Ok (response_payload_val payload.now)) first.now ending line.old line.new) }
 {
     lines_are_json();
@@ -133,7 +133,7 @@ fn tell_payload(
 
 /// Adds the line of an error that a call is answered with, and returns how the call ended. `first`
 /// is the first message of the response.
-fn tell_error(
+fn add_error_line(
     alloc: Global,
     call: &Call,
     operation: Operation,
@@ -143,7 +143,7 @@ fn tell_error(
 ) -> Result<Ending, OutOfMemory>
     requires { operation ≡ operation_asked call.now }
     ensures { IfOk result
-        (λ ending. TellsAs IsGrammarLine call.now (Err error.now) first.now ending line.old
+        (λ ending. AddsLineAs IsGrammarLine call.now (Err error.now) first.now ending line.old
         line.new) }
 {
     lines_are_json();
@@ -152,7 +152,7 @@ fn tell_error(
 
 /// Adds the line of what a call is answered with, and returns how the call ended. `first` is the
 /// first message of the response. Its only error is `OutOfMemory`.
-fn tell_result(
+fn add_result_line(
     alloc: Global,
     call: &Call,
     operation: Operation,
@@ -163,17 +163,17 @@ fn tell_result(
     requires operation { operation ≡ operation_asked call.now }
     requires variant { IfOk answer.now
         (λ payload. IsOfOperation (operation_asked call.now) (response_payload_val payload)) }
-    ensures { IfOk result (λ ending. TellsAs IsGrammarLine call.now
+    ensures { IfOk result (λ ending. AddsLineAs IsGrammarLine call.now
         (answer_with_payload answer.now) first.now ending line.old line.new) }
 {
     match answer {
-        Ok(payload) => tell_payload(alloc, call, payload, first, line),
-        Err(error) => tell_error(alloc, call, operation, error, first, line),
+        Ok(payload) => add_payload_line(alloc, call, payload, first, line),
+        Err(error) => add_error_line(alloc, call, operation, error, first, line),
     }
 }
 
 /// The same, and drops the answer. The line stands between two texts, so it is in UTF-8.
-fn tell(
+fn add_line(
     alloc: Global,
     call: &Call,
     operation: Operation,
@@ -185,12 +185,12 @@ fn tell(
     requires variant { IfOk answer
         (λ payload. IsOfOperation (operation_asked call.now) (response_payload_val payload)) }
     ensures { IfOk result
-        (λ ending. Tells call.now (answer_with_payload answer) first.now ending line.old line.new) }
+        (λ ending. AddsLine call.now (answer_with_payload answer) first.now ending line.old line.new) }
 {
     line.as_str();
-    let told = tell_result(alloc, call, operation, &answer, first, line);
+    let ending = add_result_line(alloc, call, operation, &answer, first, line);
     line.as_str();
-    told
+    ending
 }
 
 /// Adds the answer that these bytes are to a call as a line of JSON, and returns how the call
@@ -227,5 +227,5 @@ pub fn answer_of(
     let operation = operation_for(alloc, call)?;
     let limit = settings.limit();
     let Reading { answer, taken } = read_response(alloc, operation, response, limit);
-    tell(alloc, call, operation, answer, &response[..taken], line)
+    add_line(alloc, call, operation, answer, &response[..taken], line)
 }

@@ -7,7 +7,7 @@ ghost use Rattle.kmip_client.specs.Check.{mismatch_text};
 ghost use Rattle.kmip_client.specs.Untyped.{counts_one, reports_failure, sole_item};
 ghost use Rattle.kmip_words.specs.Refusal.{failure_line};
 ghost use Rattle.kmip_words.specs.Strays.{is_item_of, is_stray, ending_to};
-ghost use Rattle.kmip_words.specs.Strays.{operation_told, other_failure, error_to};
+ghost use Rattle.kmip_words.specs.Strays.{operation_text, other_failure, error_to};
 
 use crate::ending::Ending;
 use crate::items::{has_none_under, number_under, one_under};
@@ -79,7 +79,7 @@ fn is_stray(operation: Operation, response: &[u8]) -> bool
 
 /// Adds an operation by its number: its name, or its number where it is in no table.
 fn push_operation(number: Option<u32>, text: &mut Text) -> Result<(), OutOfMemory>
-    ensures { OnOk result (text.new ≡ text.old ++ operation_told number) }
+    ensures { OnOk result (text.new ≡ text.old ++ operation_text number) }
 {
     let Some(number) = number else {
         return text.push_str("None");
@@ -90,10 +90,10 @@ fn push_operation(number: Option<u32>, text: &mut Text) -> Result<(), OutOfMemor
     }
 }
 
-/// What is said of a response of another operation.
+/// The error for a response of another operation.
 #[tactic(auto, using(std::proofs::lemmas::List::append_assoc))]
 fn mismatch(alloc: Global, operation: Operation, number: Option<u32>) -> Result<Text, OutOfMemory>
-    ensures { IfOk result (λ text. text ≡ mismatch_text operation (operation_told number)) }
+    ensures { IfOk result (λ text. text ≡ mismatch_text operation (operation_text number)) }
 {
     let mut text = Text::of(alloc, "Response operation ")?;
     push_operation(number, &mut text)?;
@@ -102,7 +102,7 @@ fn mismatch(alloc: Global, operation: Operation, number: Option<u32>) -> Result<
     Ok(text)
 }
 
-/// What is said of a failure of another operation, where a response reports one.
+/// The error for a failure of another operation, where a response reports one.
 fn other_failure(
     alloc: Global,
     operation: Operation,

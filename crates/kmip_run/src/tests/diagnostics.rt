@@ -18,7 +18,7 @@ pub const DIAGNOSTICS: &[Row] = &[
         status: 1,
     },
     Row {
-        shows: "the length of a text is not told",
+        shows: "the length of a text is not shown",
         words: &["replay", "diag"],
         script: b"destroy k22 -\n",
         written: "> <REQ0(14, 94 \"k22\")>\n>~ 78[77[69[6Ai6Bi]0Di]0F[5Ce14:79[94t]]]\n<~ \n- Response read error: end of input\n",
@@ -32,7 +32,7 @@ pub const DIAGNOSTICS: &[Row] = &[
         status: 1,
     },
     Row {
-        shows: "the length of bytes is not told",
+        shows: "the length of bytes is not shown",
         words: &["replay", "diag"],
         script: b"rng 16 <OK2(25, C2 xABABABABABABABABABABABABABABABABABABABABABABABABABABABABABABABABABABABABABABABABABABAB)>\n",
         written: "> <REQ2(25, C4 i16)>\n>~ 78[77[69[6Ai6Bi]0Di]0F[5Ce25:79[C4i]]]\n<~ 7B[7A[69[6Ai6Bi]92d0Di]0F[5Ce25:7Fe0:7C[C2x]]]\n= {random_bytes=x\"ABABABABABABABABABABABABABABABABABABABABABABABABABABABABABABABABABABABABABABABABABABAB\"}\n",

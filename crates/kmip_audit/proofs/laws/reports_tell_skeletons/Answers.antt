@@ -1,4 +1,4 @@
-use Rattle.kmip_audit.proofs.Telling.{reports_tell}
+use Rattle.kmip_audit.proofs.EqualReports.{reports_tell}
 use Rattle.kmip_audit.proofs.laws.reports_tell_skeletons.Goals as goal
 
 pub returns : goal.returns

@@ -6,7 +6,7 @@ use Rattle.kmip_client.specs.Outcome.{Answer, seen_by}
 use Rattle.kmip_client.specs.Session.{CallReport, exchange_report, client_report}
 use Rattle.kmip_client.proofs.Exchanges.{seen_loses, seen_lacks}
 use Rattle.kmip_client.proofs.Sessions.{call_whole, pushed, empty_of, on_err}
-use Rattle.kmip_client.proofs.Going.{going_none, going_on, session_lost, session_done, session_cut}
+use Rattle.kmip_client.proofs.SessionSteps.{going_none, going_on, session_lost, session_done, session_cut}
 use Rattle.kmip_client.proofs.session.exchanges.Goals as goal
 
 pub loop-payload-init : goal.loop-payload-init

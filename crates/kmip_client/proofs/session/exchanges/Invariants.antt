@@ -1,7 +1,7 @@
 use Rattle.std.proofs.Common.{◌≡◌, length, map}
 use Rattle.std.specs.Vec.Iter.{into_iter_items, into_iter_len}
 use Rattle.kmip_client.specs.Session.{exchange_report}
-use Rattle.kmip_client.proofs.Going.{Going}
+use Rattle.kmip_client.proofs.SessionSteps.{Going}
 use Rattle.kmip_client.proofs.session.exchanges.Given as goal
 
 abbrev pub invariant-loop-payload : goal.invariant-loop-payload

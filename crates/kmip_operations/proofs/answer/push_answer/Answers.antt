@@ -1,4 +1,4 @@
-use Rattle.kmip_operations.proofs.Told.{tree_told}
+use Rattle.kmip_operations.proofs.AnswerLines.{tree_told}
 use Rattle.kmip_operations.proofs.answer.push_answer.Goals as goal
 
 pub returns-in_ok-push_tree-in-Ok : goal.returns-in_ok-push_tree-in-Ok

@@ -1,4 +1,4 @@
-use Rattle.kmip_operations.proofs.Told.{told_with_id}
+use Rattle.kmip_operations.proofs.AnswerLines.{told_with_id}
 use Rattle.kmip_operations.proofs.answer.push_error.Goals as goal
 
 pub returns : goal.returns

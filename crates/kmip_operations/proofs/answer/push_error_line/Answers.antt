@@ -1,10 +1,10 @@
-use Rattle.kmip_operations.proofs.Told.{error_told}
+use Rattle.kmip_operations.proofs.AnswerLines.{error_told}
 use Rattle.kmip_operations.proofs.answer.push_error_line.Goals as goal
 
 pub returns : goal.returns
 returns c =
-    let shown = c.show_failure-told.ensures in
-    error_told c.show_failure-told.result c.args.operation c.args.error.now c.args.first.now c.args.line.now
-    c.show_failure-told.new.line c.as_str.ensures.utf8 c.as_str-2.ensures.utf8
+    let shown = c.show_failure-ending.ensures in
+    error_told c.show_failure-ending.result c.args.operation c.args.error.now c.args.first.now c.args.line.now
+    c.show_failure-ending.new.line c.as_str.ensures.utf8 c.as_str-2.ensures.utf8
     (λ error. c.lines_are_json.ensures.error error c.args.first.now)
     shown.shown shown.ending shown.memory

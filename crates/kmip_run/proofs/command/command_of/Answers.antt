@@ -1,6 +1,6 @@
 use Rattle.std.proofs.Common.{◌∙◌, sym}
 use Rattle.kmip_run.proofs.Lines.{rest_is}
-use Rattle.kmip_run.proofs.Given.{command_of_replay, command_of_explain, command_of_make, command_of_audit, command_of_joined, command_of_other, command_of_none}
+use Rattle.kmip_run.proofs.Options.{command_of_replay, command_of_explain, command_of_make, command_of_audit, command_of_joined, command_of_other, command_of_none}
 use Rattle.kmip_run.proofs.command.command_of.Goals as goal
 
 pub returns-in_default : goal.returns-in_default

@@ -1,5 +1,5 @@
 use Rattle.std.proofs.Common.{◌∙◌, ap, sym, option_map, List, ℕ, Bor}
-use Rattle.kmip_run.proofs.Given.{options_of_is, with_more, with_limit, with_bad_limit, with_no_limit}
+use Rattle.kmip_run.proofs.Options.{options_of_is, with_more, with_limit, with_bad_limit, with_no_limit}
 use Rattle.kmip_run.proofs.command.options_of.Goals as goal
 
 pub returns-in_default : goal.returns-in_default

@@ -2,7 +2,7 @@ use Rattle.std.proofs.Common.{◌≡◌, ◌+◌, ◌∙◌, ap, sym, subst, ari
 use Rattle.std.proofs.lemmas.Bool.Decides.{nat_tests}
 use Rattle.kmip_words.specs.Exchange.{Settings, settings_of}
 use Rattle.kmip_joined.specs.Lines.{line_call}
-use Rattle.kmip_joined.specs.Told.{Runs}
+use Rattle.kmip_joined.specs.Reports.{Runs}
 use Rattle.kmip_joined.specs.World.{joined_step, world_of}
 use Rattle.kmip_run.proofs.Explained.{nothing_yet}
 use Rattle.kmip_run.proofs.Joins.{next_call, next_bad, no_more}

@@ -1,7 +1,7 @@
 use Rattle.std.proofs.Common.{◌≡◌, ◌+◌, ◌≤◌, length}
 use Rattle.kmip_run.specs.Script.{lines_of}
 use Rattle.kmip_words.specs.Exchange.{settings_of}
-use Rattle.kmip_joined.specs.Told.{IsJoined}
+use Rattle.kmip_joined.specs.Reports.{IsJoined}
 use Rattle.kmip_joined.specs.World.{world_of}
 use Rattle.kmip_run.specs.Transcript.{joined}
 use Rattle.kmip_run.specs.declared.status.ScriptEnd.TheVariants.{Answered}

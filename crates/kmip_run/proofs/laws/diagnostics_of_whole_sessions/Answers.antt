@@ -1,4 +1,4 @@
-use Rattle.kmip_run.proofs.Tellings as laws
+use Rattle.kmip_run.proofs.SkeletonsShown as laws
 use Rattle.kmip_run.proofs.laws.diagnostics_of_whole_sessions.Goals as goal
 
 pub returns : goal.returns

@@ -7,7 +7,7 @@ use Rattle.kmip_server.specs.Calls.{report_of, call_settings}
 use Rattle.kmip_server.specs.Joined.{CallSettings}
 use Rattle.kmip_server.specs.Link.{server_link_state}
 use Rattle.kmip_server.proofs.Chain.{chain_on, chain_lost, chain_end, chain_cut, lost_after}
-use Rattle.kmip_server.proofs.Going.{rest_is, going_called, still_open, going_lost, going_all, ends_with}
+use Rattle.kmip_server.proofs.CallSteps.{rest_is, going_called, still_open, going_lost, going_all, ends_with}
 use Rattle.kmip_server.proofs.joined.calls_over.Goals as goal
 
 pub loop-call-preserved : goal.loop-call-preserved

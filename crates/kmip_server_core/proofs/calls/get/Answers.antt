@@ -1,7 +1,7 @@
 use Rattle.std.proofs.Common.{refl}
 use Rattle.kmip_store.specs.declared.call.Call.TheVariants as calls
 use Rattle.kmip_server_core.proofs.Answering.{telling_serves}
-use Rattle.kmip_server_core.proofs.Foretold.{get_stays}
+use Rattle.kmip_server_core.proofs.Changes.{get_stays}
 use Rattle.kmip_server_core.proofs.calls.get.Goals as goal
 
 pub returns : goal.returns

@@ -3,7 +3,7 @@ use Rattle.kmip_store.specs.Steps.{Done, step}
 use Rattle.kmip_store.specs.declared.call.Call.TheVariants as calls
 use Rattle.kmip_server_core.specs.Items.{message_with}
 use Rattle.kmip_server_core.specs.Answering.{IsWritten, step_answer, AnswersCall}
-use Rattle.kmip_server_core.proofs.Foretold.{revoke_told, changing_serves, unchanged_serves}
+use Rattle.kmip_server_core.proofs.Changes.{revoke_told, changing_serves, unchanged_serves}
 use Rattle.kmip_server_core.proofs.keys.revoke.Goals as goal
 
 pub returns-in-Ok : goal.returns-in-Ok

@@ -1,5 +1,5 @@
 use Rattle.std.proofs.Common.{arith}
-use Rattle.kmip_server.proofs.Going.{serves_none, begun_none}
+use Rattle.kmip_server.proofs.CallSteps.{serves_none, begun_none}
 use Rattle.kmip_server.proofs.link.ServerLink.new.Goals as goal
 
 pub invariant_of-result : goal.invariant_of-result

@@ -13,15 +13,15 @@ use Rattle.kmip_words.specs.JsonLines.{IsGrammarLine}
 use Rattle.kmip_words.specs.declared.ending.Ending.{Ending}
 use Rattle.kmip_words.specs.declared.ending.Ending.TheVariants.{Answered}
 use Rattle.kmip_words.proofs.JsonLines.{rest_utf8}
-use Rattle.kmip_operations.specs.Answers.{tree_line, ending_for, TellsTree}
+use Rattle.kmip_operations.specs.Answers.{tree_line, ending_for, AddsTreeLine}
 use Rattle.kmip_operations.specs.JsonLines.{IsLineOf, answer_json}
 
 pub tree_told : (operation : Option Operation) (id : Option (List ℕ)) (answer : Result Tree Error) (tree : Tree) (first old new : List ℕ)
     → answer ≡ Ok tree → new ≡ old ++ value_line (json_text tree) Json
     → IsLineOf (answer_json tree) (tree_line (Ok tree) first) → IsUtf8 (tree_line (Ok tree) first)
-    → TellsTree operation id answer first Answered old new
+    → AddsTreeLine operation id answer first Answered old new
 tree_told operation id answer tree first old new is line reads utf8 = rw is (record {
-  told = line;
+  added = line;
   ending_is = refl;
   json = record { grammar = inl (answer_json tree, reads); utf8 = utf8 };
   some = λ none. absurd (cc);
@@ -36,9 +36,9 @@ pub error_told : {E : Type 0} (result : Result Ending E) (operation : Option Ope
     → OnOk result (new ≡ old ++ failure_line (error_to operation error first) first)
     → IfOk result (λ ending. ending ≡ ending_to operation error first)
     → OnOk result (error ≢ OutOfMemory)
-    → IfOk result (λ ending. TellsTree operation None (Err error) first ending old new)
+    → IfOk result (λ ending. AddsTreeLine operation None (Err error) first ending old new)
 error_told (Ok ending) operation error first old new before after json shown ends some = record {
-  told = shown;
+  added = shown;
   ending_is = ends;
   json = record {
     grammar = inr (json (error_to operation error first));
@@ -51,11 +51,11 @@ error_told (Err stop) operation error first old new before after json shown ends
 -- where the call has an ID
 pub told_with_id : {E : Type 0} (result : Result Ending E) (operation : Option Operation)
     (id : Option (List ℕ)) (error : Error) (ended : Ending) (first old new : List ℕ)
-    → TellsTree operation None (Err error) first ended old new
+    → AddsTreeLine operation None (Err error) first ended old new
     → IfOk result (λ ending. ending ≡ ending_for id first ended)
-    → IfOk result (λ ending. TellsTree operation id (Err error) first ending old new)
+    → IfOk result (λ ending. AddsTreeLine operation id (Err error) first ending old new)
 told_with_id (Ok ending) operation id error ended first old new tells last = record {
-  told = tells.told;
+  added = tells.added;
   ending_is = last ∙ ap (ending_for id first) tells.ending_is;
   json = tells.json;
   some = tells.some;

@@ -1,5 +1,5 @@
-use Rattle.kmip_words.proofs.Told.{failed}
-use Rattle.kmip_words.proofs.offline.tell_error.Goals as goal
+use Rattle.kmip_words.proofs.AnswerLines.{failed}
+use Rattle.kmip_words.proofs.offline.add_error_line.Goals as goal
 
 pub returns : goal.returns
 returns c =

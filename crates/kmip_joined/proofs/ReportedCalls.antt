@@ -10,16 +10,16 @@ use Rattle.kmip_client.specs.Outcome.{Answer, outcome_of, answer_of, seen_by, gi
 use Rattle.kmip_client.specs.Session.{response_text_of}
 use Rattle.kmip_client.specs.declared.error.Error.TheVariants.{SerializeError, RequestWriteError, OutOfMemory}
 use Rattle.kmip_client.proofs.Headlines.{seen_variant}
-use Rattle.kmip_client.proofs.Said.{OfMessages, message_says}
+use Rattle.kmip_client.proofs.MessageAnswers.{OfMessages, message_says}
 use Rattle.kmip_store.specs.declared.call.Call.{Call}
 use Rattle.kmip_server_core.specs.Requests.{call_operation}
 use Rattle.kmip_server.specs.Calls.{IsOfCall, report_of}
 use Rattle.kmip_server.specs.Joined.{CallSettings, turn_with, joined_report}
 use Rattle.kmip_server.specs.declared.answers.CallAnswer.{CallAnswer}
-use Rattle.kmip_words.specs.Exchange.{told_lines, value_in_style, step_of}
+use Rattle.kmip_words.specs.Exchange.{diagnostic_lines, value_in_style, step_of}
 use Rattle.kmip_words.proofs.Diagnostics.{told_of}
 use Rattle.kmip_joined.specs.Lines.{line_call}
-use Rattle.kmip_joined.specs.Told.{ReportsStep}
+use Rattle.kmip_joined.specs.Reports.{ReportsStep}
 use Rattle.kmip_joined.proofs.Shown.{shown_is}
 
 -- no outcome is want of memory
@@ -89,7 +89,7 @@ told_as settings call request rest x is fits =
     (of_operation request (call_operation call) settings.limit rest) fits in
     record {
       sent = ap (λ t. t.sent) is;
-      texts = ap (λ t. told_lines b t.request_text t.response_text) is
+      texts = ap (λ t. diagnostic_lines b t.request_text t.response_text) is
           ∙ told_of b request (call_operation call) settings.limit rest o.taken o.answer _ _ refl
           (some_answer request (call_operation call) settings.limit rest) refl
           (request_text b request o.answer) (response_text b (take o.taken rest) o.answer);

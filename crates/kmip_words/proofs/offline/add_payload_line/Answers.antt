@@ -2,8 +2,8 @@ use Rattle.std.proofs.Common.{◌≡◌, ◌∙◌, ap, sym, Some, None, option_
 use Rattle.kmip_response.specs.Values.{response_payload_val}
 use Rattle.kmip_client.specs.declared.error.Error.TheVariants.{InternalError}
 use Rattle.kmip_words.specs.About.{objection}
-use Rattle.kmip_words.proofs.Told.{objected, answered}
-use Rattle.kmip_words.proofs.offline.tell_payload.Goals as goal
+use Rattle.kmip_words.proofs.AnswerLines.{objected, answered}
+use Rattle.kmip_words.proofs.offline.add_payload_line.Goals as goal
 
 pub returns-in_ok-push_internal_error-in-Some : goal.returns-in_ok-push_internal_error-in-Some
 returns-in_ok-push_internal_error-in-Some c =

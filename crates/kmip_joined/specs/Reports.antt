@@ -16,7 +16,7 @@ use Rattle.kmip_server.specs.Link.{ServerLinkState, LinkFacts, IsOpen}
 use Rattle.kmip_server.specs.declared.answers.Answered.{Answered}
 use Rattle.kmip_server.specs.declared.answers.Answered.TheVariants as answered
 use Rattle.kmip_server.specs.declared.answers.CallAnswer.{CallAnswer}
-use Rattle.kmip_words.specs.Exchange.{settings_of as line_settings, Step, answer_line, call_text, done_in_style, is_error, pair_in_style, told_lines}
+use Rattle.kmip_words.specs.Exchange.{settings_of as line_settings, Step, answer_line, call_text, done_in_style, is_error, pair_in_style, diagnostic_lines}
 use Rattle.kmip_joined.specs.Lines.{line_call}
 use Rattle.kmip_joined.specs.World.{World, Joined, joined_step, world_of}
 
@@ -57,7 +57,7 @@ pub record IsMade (before after : ClientState (ServerLinkState PlainMemory)) (ca
 -- the report of a call is that of this step
 pub record ReportsStep (s : Step) (buffered : Bool) (report : CallAnswer) : Type 0 where
   pub sent : report.sent ≡ s.sent
-  pub texts : told_lines buffered report.req_diag report.res_diag ≡ s.told
+  pub texts : diagnostic_lines buffered report.req_diag report.res_diag ≡ s.diagnostics
   pub shown : answer_line answered_shown Bare report.answer ≡ s.shown
   pub failed : is_error report.answer ≡ s.failed
 

@@ -9,7 +9,7 @@ use Rattle.kmip_words.specs.Exchange.{operation_asked, value_in_style, value_lin
 use Rattle.kmip_words.specs.JsonLines.{IsGrammarLine, IsJsonLine}
 use Rattle.kmip_words.specs.Refusal.{internal_error_line, failure_line}
 use Rattle.kmip_words.specs.Strays.{error_to, ending_to}
-use Rattle.kmip_words.specs.About.{objection, objected_ending, answer_about, ending_about, line_with, IsReply, TellsAs, Tells}
+use Rattle.kmip_words.specs.About.{objection, objected_ending, answer_about, ending_about, line_with, IsReply, AddsLineAs, AddsLine}
 use Rattle.kmip_words.specs.declared.call.Call.{Call}
 use Rattle.kmip_words.specs.declared.ending.Ending.{Ending}
 use Rattle.kmip_words.specs.declared.ending.Ending.TheVariants.{Answered, Lost}
@@ -23,9 +23,9 @@ is_some payload none = absurd (cc)
 pub objected : (call : Call) (payload : Val) (first old new text : List ℕ)
     → objection call payload ≡ Some text → new ≡ old ++ internal_error_line text first
     → IsGrammarLine (internal_error_line text first)
-    → TellsAs IsGrammarLine call (Ok payload) first Lost old new
+    → AddsLineAs IsGrammarLine call (Ok payload) first Lost old new
 objected call payload first old new text is line json = record {
-  told = rw is line;
+  added = rw is line;
   ending_is = sym (ap objected_ending is);
   json = rw is json;
   some = is_some payload;
@@ -36,9 +36,9 @@ pub answered : (call : Call) (payload : Val) (first old new : List ℕ)
     → objection call payload ≡ None
     → new ≡ old ++ value_line (value_in_style call payload Json) Json
     → IsGrammarLine (json_line call (Ok payload))
-    → TellsAs IsGrammarLine call (Ok payload) first Answered old new
+    → AddsLineAs IsGrammarLine call (Ok payload) first Answered old new
 answered call payload first old new is line json = record {
-  told = rw is line;
+  added = rw is line;
   ending_is = sym (ap objected_ending is);
   json = rw is json;
   some = is_some payload;
@@ -53,9 +53,9 @@ pub failed : {E : Type 0} (result : Result Ending E) (call : Call) (error : Erro
     → OnOk result (new ≡ old ++ failure_line (error_to (Some (operation_asked call)) error first) first)
     → IfOk result (λ ending. ending ≡ ending_to (Some (operation_asked call)) error first)
     → OnOk result (error ≢ OutOfMemory)
-    → IfOk result (λ ending. TellsAs IsGrammarLine call (Err error) first ending old new)
+    → IfOk result (λ ending. AddsLineAs IsGrammarLine call (Err error) first ending old new)
 failed (Ok ending) call error first old new json line ends some = record {
-  told = line;
+  added = line;
   ending_is = ends;
   json = json (error_to (Some (operation_asked call)) error first);
   some = same_error error some;
@@ -65,12 +65,12 @@ failed (Err stop) call error first old new json line ends some = tt
 -- the line stands between two texts, so it is in UTF-8
 pub in_utf8 : {E : Type 0} (result : Result Ending E) (call : Call) (answer : Answer)
     (first old new : List ℕ) → IsUtf8 old → IsUtf8 new
-    → IfOk result (λ ending. TellsAs IsGrammarLine call answer first ending old new)
-    → IfOk result (λ ending. Tells call answer first ending old new)
+    → IfOk result (λ ending. AddsLineAs IsGrammarLine call answer first ending old new)
+    → IfOk result (λ ending. AddsLine call answer first ending old new)
 in_utf8 (Ok ending) call answer first old new before after tells = record {
-  told = tells.told;
+  added = tells.added;
   ending_is = tells.ending_is;
-  json = added_line old (line_with call (answer_about call answer first) first) new tells.json tells.told before after;
+  json = added_line old (line_with call (answer_about call answer first) first) new tells.json tells.added before after;
   some = tells.some;
 }
 in_utf8 (Err stop) call answer first old new before after tells = tt
@@ -80,12 +80,12 @@ in_utf8 (Err stop) call answer first old new before after tells = tt
 pub due_line : {E : Type 0} (result : Result Ending E) (call : Call) (given : Answer)
     (first : List ℕ) (due : Outcome) (response old new : List ℕ)
     → IsReply given first due response →
-    IfOk result (λ ending. Tells call given first ending old new)
+    IfOk result (λ ending. AddsLine call given first ending old new)
     → OnOk result (new ≡ old ++ line_with call (answer_about call due.answer (take due.taken response))
     (take due.taken response))
 due_line (Ok ending) call given first due response old new reply tells =
     let is = reply tells.some in
-    tells.told
+    tells.added
     ∙ ap (λ (a : Answer). old ++ line_with call (answer_about call a first) first) is.0
     ∙ ap (λ (f : List ℕ). old ++ line_with call (answer_about call due.answer f) f) is.1
 due_line (Err error) call given first due response old new reply tells = tt
@@ -93,7 +93,7 @@ due_line (Err error) call given first due response old new reply tells = tt
 pub due_ending : {E : Type 0} (result : Result Ending E) (call : Call) (given : Answer)
     (first : List ℕ) (due : Outcome) (response old new : List ℕ)
     → IsReply given first due response →
-    IfOk result (λ ending. Tells call given first ending old new)
+    IfOk result (λ ending. AddsLine call given first ending old new)
     → IfOk result (λ ending. ending ≡ ending_about call due.answer (take due.taken response))
 due_ending (Ok ending) call given first due response old new reply tells =
     let is = reply tells.some in
@@ -104,7 +104,7 @@ due_ending (Err error) call given first due response old new reply tells = tt
 pub due_json : {E : Type 0} (result : Result Ending E) (call : Call) (given : Answer)
     (first : List ℕ) (due : Outcome) (response old new : List ℕ)
     → IsReply given first due response →
-    IfOk result (λ ending. Tells call given first ending old new)
+    IfOk result (λ ending. AddsLine call given first ending old new)
     → OnOk result (IsJsonLine (line_with call
     (answer_about call due.answer (take due.taken response)) (take due.taken response)))
 due_json (Ok ending) call given first due response old new reply tells =

@@ -19,7 +19,7 @@ use Rattle.kmip_client.specs.Session.{Turn, turn_of, session}
 use Rattle.kmip_client.specs.Skeletons.{taken_by, Parse, AllParse, skeletons_of, texts_of}
 use Rattle.kmip_shape.proofs.Parts.{some_same}
 use Rattle.kmip_run.specs.Sent.{AreHeld}
-use Rattle.kmip_run.specs.Told.{AllAnswered, skeleton_in, skeletons_in}
+use Rattle.kmip_run.specs.Skeletons.{AllAnswered, skeleton_in, skeletons_in}
 
 -- the laws that it stands on
 abbrev RequestsParse : Type 0
