@@ -1,5 +1,5 @@
 -- The front of a text, and what follows it: white space, texts and words (XML 1.0, 2.3).
-use Rattle.std.specs.Prelude.{ℕ, ◌+◌, ◌==◌, ◌&&◌, ◌||◌, nat_lt, Bool, List, length, take, drop, Option, Some, None, slice_index, if◌then◌else◌}
+use Rattle.std.specs.Prelude.{ℕ, ◌==◌, ◌||◌, nat_lt, Bool, List, length, take, drop, Option, Some, None, if◌then◌else◌}
 use Rattle.std.specs.List.{prefix_len, position_or_len, before_first, after_first, starts_with}
 use Rattle.kmip_encodings.specs.XmlGrammar.{is_between, is_letter}
 
@@ -12,7 +12,7 @@ trimmed s = drop (prefix_len is_space s) s
 
 -- the same, where some stands there
 abbrev pub spaced : List ℕ → Option (List ℕ)
-spaced s = if is_space (slice_index s 0) then Some (trimmed s) else None
+spaced s = if nat_lt (length (trimmed s)) (length s) then Some (trimmed s) else None
 
 -- what follows this text at the front
 unfoldable pub after : List ℕ → List ℕ → Option (List ℕ)

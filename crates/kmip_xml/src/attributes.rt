@@ -4,7 +4,7 @@ ghost use Rattle.kmip_xml.specs.Given.{Gives};
 ghost use Rattle.kmip_xml.specs.Markup.{quoted, equals, once, no_attributes, put, attribute};
 ghost use Rattle.kmip_xml.specs.Markup.{attributes};
 
-use crate::error::{XmlError, misfit_at};
+use crate::error::{Wanted, XmlError, misfit_at};
 use crate::markup::tag_end;
 use crate::scan::{after, around, spaced, trimmed, word};
 use crate::values::value_of;
@@ -98,18 +98,15 @@ fn attribute<'a>(
 {
     let (key, rest) = word(text);
     let Some(rest) = equals(rest) else {
-        return Err(XmlError::Misfit(misfit_at(rest, "= and the value of an attribute")));
+        return Err(XmlError::Misfit(misfit_at(rest, Wanted::Equals)));
     };
     let Some((raw, rest)) = quoted(rest) else {
-        return Err(XmlError::Misfit(misfit_at(rest, "a value in quotes")));
+        return Err(XmlError::Misfit(misfit_at(rest, Wanted::Quotes)));
     };
     let value = value_of(alloc, raw)?;
     match put(key, value, found) {
         Some(more) => Ok((more, rest)),
-        None => Err(XmlError::Misfit(misfit_at(
-            text,
-            "tag, type, value or name, each at most once",
-        ))),
+        None => Err(XmlError::Misfit(misfit_at(text, Wanted::AttributeName))),
     }
 }
 
@@ -127,7 +124,7 @@ fn more_attributes<'a>(
         return Ok((found, rest));
     }
     if count == 0 || spaced(text).is_none() {
-        return Err(XmlError::Misfit(misfit_at(rest, "> or /> or an attribute")));
+        return Err(XmlError::Misfit(misfit_at(rest, Wanted::AttributeOrEnd)));
     }
     let (found, rest) = attribute(alloc, found, rest)?;
     more_attributes(alloc, count - 1, found, rest)

@@ -46,10 +46,6 @@ fn whole(tag: Tag, leaf: Option<Tree>, items: Trees) -> Option<Tree>
     }
 }
 
-const ONE: &str = "one element, and the end of the text behind it";
-
-const ELEMENT: &str = "an element, a comment, or the end of the element around";
-
 /// Reads a comment or an element, or finds the end, behind white space.
 #[cycle(read)]
 #[tactic(auto, unfolding(crate::specs::Reading::turn))]
@@ -65,14 +61,14 @@ fn read_turn<'a>(
     if let Some(inner) = after("<!--", text) {
         return match comment(inner) {
             Some(rest) => Ok((Turn::Comment, rest)),
-            None => Err(XmlError::Misfit(misfit_at(text, "a comment, with no -- but at its ends"))),
+            None => Err(XmlError::Misfit(misfit_at(text, Wanted::Comment))),
         };
     }
     if is_end(text) {
         return Ok((Turn::End, text));
     }
     let Some(inner) = after("<", text) else {
-        return Err(XmlError::Misfit(misfit_at(text, ELEMENT)));
+        return Err(XmlError::Misfit(misfit_at(text, Wanted::Element)));
     };
     let (tree, rest) = read_item(alloc, inner, levels, named)?;
     Ok((Turn::Item(tree), rest))
@@ -98,7 +94,7 @@ fn read_contents(alloc: Global, text: &str, levels: u32) -> Result<(Trees, &str)
             }
         }
     }
-    Err(XmlError::Misfit(misfit_at(rest, ELEMENT)))
+    Err(XmlError::Misfit(misfit_at(rest, Wanted::Element)))
 }
 
 /// Reads what an element has in it, and the tag at its end.
@@ -119,7 +115,7 @@ fn read_inner<'a>(
     let (items, rest) = read_contents(alloc, text, levels)?;
     match end_tag(name, rest) {
         Some(rest) => Ok((items, rest)),
-        None => Err(XmlError::Misfit(misfit_at(rest, "the end of the element around"))),
+        None => Err(XmlError::Misfit(misfit_at(rest, Wanted::ElementEnd))),
     }
 }
 
@@ -134,7 +130,7 @@ fn read_item<'a>(
     ensures { Gives (λ x. (x.0, x.1.now)) result (item levels named text.now) }
 {
     if levels == 0 {
-        return Err(XmlError::Misfit(misfit_at(text, "at most 64 levels of items")));
+        return Err(XmlError::Misfit(misfit_at(text, Wanted::FewerLevels)));
     }
     let (start, rest) = read_start(alloc, named, text)?;
     let Start {
@@ -146,7 +142,7 @@ fn read_item<'a>(
     let (items, rest) = read_inner(alloc, name, closed, rest, levels - 1)?;
     match whole(tag, leaf, items) {
         Some(tree) => Ok((tree, rest)),
-        None => Err(XmlError::Misfit(misfit_at(text, "no element in one that has a value"))),
+        None => Err(XmlError::Misfit(misfit_at(text, Wanted::NoElement))),
     }
 }
 
@@ -200,15 +196,15 @@ pub fn from_xml(alloc: Global, text: &str) -> Result<Tree, XmlError>
     ensures { Gives (λ tree. tree) result (tree_of text.now) }
 {
     if let Some(left) = foreign_at(text) {
-        let wanted = Wanted::Words("a character that XML has");
+        let wanted = Wanted::Character;
         return Err(XmlError::Misfit(Misfit { left, wanted }));
     }
     let Some(rest) = declared(text) else {
-        return Err(XmlError::Misfit(misfit_at(text, "a declaration that ends with ?>")));
+        return Err(XmlError::Misfit(misfit_at(text, Wanted::DeclarationEnd)));
     };
     let (items, rest) = read_contents(alloc, rest, 64)?;
     match only(items, rest) {
         Some(tree) => Ok(tree),
-        None => Err(XmlError::Misfit(misfit_at(rest, ONE))),
+        None => Err(XmlError::Misfit(misfit_at(rest, Wanted::OneElement))),
     }
 }

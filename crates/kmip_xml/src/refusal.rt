@@ -16,6 +16,14 @@ const TAG: &str =
 const TYPE: &str = "a type: Structure, Integer, LongInteger, BigInteger, Enumeration, Boolean, \
     TextString, ByteString, DateTime or Interval";
 
+const ELEMENT: &str = "an element, a comment, or the end of the element around";
+
+const NAME: &str = "the name of an element, since document types and processing instructions are \
+    not read";
+
+const REFERENCE: &str = "&quot;, &amp;, &apos;, &lt;, &gt;, or the number of a character as &#10; \
+    or &#xA;";
+
 /// An Integer, which is a mask under some tags.
 fn integer_words(tag: Tag) -> &'static str {
     match tag.number() {
@@ -56,7 +64,21 @@ fn push_value(out: &mut Text, kind: Kind, tag: Tag) -> Result<(), OutOfMemory> {
 /// Appends what was expected.
 fn push_wanted(out: &mut Text, wanted: Wanted) -> Result<(), OutOfMemory> {
     match wanted {
-        Wanted::Words(words) => out.push_str(words),
+        Wanted::Character => out.push_str("a character that XML has"),
+        Wanted::DeclarationEnd => out.push_str("a declaration that ends with ?>"),
+        Wanted::OneElement => out.push_str("one element, and the end of the text behind it"),
+        Wanted::Element => out.push_str(ELEMENT),
+        Wanted::Comment => out.push_str("a comment, with no -- but at its ends"),
+        Wanted::ElementEnd => out.push_str("the end of the element around"),
+        Wanted::NoElement => out.push_str("no element in one that has a value"),
+        Wanted::Name => out.push_str(NAME),
+        Wanted::AttributeOrEnd => out.push_str("> or /> or an attribute"),
+        Wanted::AttributeName => out.push_str("tag, type, value or name, each at most once"),
+        Wanted::Equals => out.push_str("= and the value of an attribute"),
+        Wanted::Quotes => out.push_str("a value in quotes"),
+        Wanted::NoElementInValue => out.push_str("no < in the value of an attribute"),
+        Wanted::Reference => out.push_str(REFERENCE),
+        Wanted::FewerLevels => out.push_str("at most 64 levels of items"),
         Wanted::Tag => out.push_str(TAG),
         Wanted::Type => out.push_str(TYPE),
         Wanted::Value(kind, tag) => push_value(out, kind, tag),
@@ -123,22 +145,22 @@ fn push_found(
 ) -> Result<(), OutOfMemory> {
     let (name, behind) = word(rest);
     match wanted {
-        Wanted::Words(_) => push_mark(out, rest),
         Wanted::Tag => push_quoted(alloc, out, name),
-        _ => match all_attributes(alloc, behind) {
+        Wanted::Type | Wanted::Value(_, _) => match all_attributes(alloc, behind) {
             Ok((found, _)) => push_attribute(alloc, out, &found, wanted),
             Err(XmlError::OutOfMemory) => Err(OutOfMemory),
             Err(_) => out.push_str("nothing"),
         },
+        _ => push_mark(out, rest),
     }
 }
 
 /// Appends the way to the attribute: the element's name and its own.
 fn push_path(out: &mut Text, rest: &str, wanted: Wanted) -> Result<(), OutOfMemory> {
     let attribute = match wanted {
-        Wanted::Words(_) | Wanted::Tag => return Ok(()),
         Wanted::Type => ".type",
         Wanted::Value(_, _) => ".value",
+        _ => return Ok(()),
     };
     out.push_str(word(rest).0)?;
     out.push_str(attribute)

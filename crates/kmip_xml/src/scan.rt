@@ -1,10 +1,10 @@
 //! The front of a text, and what follows it.
-ghost use Rattle.std.specs.Prelude.{◌≡◌, ◌<◌, ◌&&◌, not, option_map};
+ghost use Rattle.std.specs.Prelude.{◌≡◌, ◌<◌, option_map};
 ghost use Rattle.std.specs.List.{prefix_len};
 ghost use Rattle.kmip_xml.specs.Scan.{is_space, trimmed, spaced, after, around, is_in_word, word};
 
 /// White space of XML (2.3).
-pub(crate) fn is_space(byte: u8) -> bool
+fn is_space(byte: u8) -> bool
     ensures { result ≡ is_space byte }
 {
     byte == b' ' || byte == b'\t' || byte == b'\n' || byte == b'\r'
@@ -13,7 +13,7 @@ pub(crate) fn is_space(byte: u8) -> bool
 fn is_in_word(byte: u8) -> bool
     ensures { result ≡ is_in_word byte }
 {
-    byte.is_ascii_alphanumeric() || byte == b'_'
+    matches!(byte, b'A'..=b'Z' | b'a'..=b'z' | b'0'..=b'9' | b'_')
 }
 
 /// How many bytes of white space stand at the front.
@@ -42,9 +42,11 @@ pub(crate) fn trimmed(text: &str) -> &str
 pub(crate) fn spaced(text: &str) -> Option<&str>
     ensures { option_map (λ rest. rest.now) result ≡ spaced text.now }
 {
-    match text.as_bytes().first() {
-        Some(byte) if is_space(*byte) => Some(trimmed(text)),
-        _ => None,
+    let rest = trimmed(text);
+    if rest.len() < text.len() {
+        Some(rest)
+    } else {
+        None
     }
 }
 

@@ -6,7 +6,7 @@ ghost use Rattle.kmip_xml.specs.Reading.{tag_in, kind_in, scalar_tree, no_value,
 ghost use Rattle.kmip_xml.specs.Reading.{start_of, start};
 
 use crate::attributes::{Attributes, all_attributes};
-use crate::error::{Misfit, Wanted, XmlError, misfit_at};
+use crate::error::{Wanted, XmlError, misfit_at};
 use crate::markup::tag_end;
 use crate::scalars::scalar_node;
 use crate::scan::word;
@@ -100,14 +100,11 @@ fn head<'a>(
 ) -> Result<Start<'a>, XmlError>
     ensures { Gives start_of result (head named name.now found.now closed) }
 {
-    let left = text.len();
     let Some(tag) = tag_in(alloc, name, &found.tag)? else {
-        let wanted = Wanted::Tag;
-        return Err(XmlError::Misfit(Misfit { left, wanted }));
+        return Err(XmlError::Misfit(misfit_at(text, Wanted::Tag)));
     };
     let Some(kind) = kind_in(&found.kind) else {
-        let wanted = Wanted::Type;
-        return Err(XmlError::Misfit(Misfit { left, wanted }));
+        return Err(XmlError::Misfit(misfit_at(text, Wanted::Type)));
     };
     match leaf(alloc, named, tag, kind, &found.value)? {
         Some(leaf) => Ok(Start {
@@ -118,13 +115,10 @@ fn head<'a>(
         }),
         None => {
             let wanted = Wanted::Value(kind, place(named, tag));
-            Err(XmlError::Misfit(Misfit { left, wanted }))
+            Err(XmlError::Misfit(misfit_at(text, wanted)))
         }
     }
 }
-
-const NAME: &str = "the name of an element, since document types and processing instructions are \
-    not read";
 
 /// Reads the tag that starts an element, of which `<` was read.
 #[tactic(auto, unfolding(crate::specs::Reading::start))]
@@ -137,11 +131,11 @@ pub(crate) fn read_start<'a>(
 {
     let (name, rest) = word(text);
     if name.is_empty() {
-        return Err(XmlError::Misfit(misfit_at(text, NAME)));
+        return Err(XmlError::Misfit(misfit_at(text, Wanted::Name)));
     }
     let (found, rest) = all_attributes(alloc, rest)?;
     let Some((closed, rest)) = tag_end(rest) else {
-        return Err(XmlError::Misfit(misfit_at(rest, "> or />")));
+        return Err(XmlError::Misfit(misfit_at(rest, Wanted::AttributeOrEnd)));
     };
     let start = head(alloc, named, text, name, &found, closed)?;
     Ok((start, rest))

@@ -1,5 +1,5 @@
 //! The value of an attribute.
-ghost use Rattle.std.specs.Prelude.{◌≡◌, ◌++◌, ◌∷◌, ◌≤◌, ◌<◌, IfOk, option_map, map, length, Some};
+ghost use Rattle.std.specs.Prelude.{◌≡◌, ◌++◌, ◌∷◌, ◌≤◌, ◌<◌, IfOk, IfSome, option_map, map};
 ghost use Rattle.std.specs.Str.{chars};
 ghost use Rattle.kmip_xml.specs.Given.{Gives};
 ghost use Rattle.kmip_xml.specs.Values.{plain_char, plain, digit, grown, digits, character};
@@ -7,7 +7,7 @@ ghost use Rattle.kmip_xml.specs.Values.{numbered, entity, reference, referred, a
 ghost use Rattle.kmip_xml.specs.Values.{joined, value_of};
 ghost use Rattle.kmip_encodings.specs.XmlGrammar.{is_xml_char};
 
-use crate::error::{XmlError, misfit_at};
+use crate::error::{Wanted, XmlError, misfit_at};
 use crate::scan::{after, around};
 use kmip_encodings::parts_between;
 use kmip_wire::{OutOfMemory, Text};
@@ -47,7 +47,8 @@ fn put_plain(out: &mut Text, text: &str) -> Result<(), OutOfMemory>
 }
 
 fn digit(base: u32, byte: u8) -> Option<u32>
-    ensures { result ≡ digit base byte }
+    ensures value { result ≡ digit base byte }
+    ensures range { IfSome result (λ d. d < 16) }
 {
     match byte {
         b'0'..=b'9' => Some((byte - b'0') as u32),
@@ -62,7 +63,8 @@ fn grown(base: u32, number: u32, digit: u32) -> Option<u32>
     requires base { base ≤ 16 }
     requires number { number ≤ 0x10FFFF }
     requires digit { digit < 16 }
-    ensures { result ≡ grown base number digit }
+    ensures value { result ≡ grown base number digit }
+    ensures range { IfSome result (λ n. n ≤ 0x10FFFF) }
 {
     let grown = number * base + digit;
     if grown <= 0x10FFFF { Some(grown) } else { None }
@@ -129,19 +131,16 @@ fn reference(name: &str) -> Option<char>
     }
 }
 
-const REFERENCE: &str = "&quot;, &amp;, &apos;, &lt;, &gt;, or the number of a character as &#10; \
-    or &#xA;";
-
 /// Appends the character of a reference and what stands behind it; the text begins behind its `&`.
 #[tactic(auto, unfolding(crate::specs::Values::referred))]
 fn put_referred(out: &mut Text, text: &str) -> Result<(), XmlError>
     ensures { Gives (λ _. out.new) result (option_map (λ s. out.old ++ s) (referred text.now)) }
 {
     let Some((name, rest)) = around(';', text) else {
-        return Err(XmlError::Misfit(misfit_at(text, REFERENCE)));
+        return Err(XmlError::Misfit(misfit_at(text, Wanted::Reference)));
     };
     let Some(ch) = reference(name) else {
-        return Err(XmlError::Misfit(misfit_at(text, REFERENCE)));
+        return Err(XmlError::Misfit(misfit_at(text, Wanted::Reference)));
     };
     out.push(ch)?;
     put_plain(out, rest)?;
@@ -177,7 +176,7 @@ pub(crate) fn value_of(alloc: Global, raw: &str) -> Result<Text, XmlError>
     ensures { Gives (λ text. text) result (value_of raw.now) }
 {
     if around('<', raw).is_some() {
-        return Err(XmlError::Misfit(misfit_at(raw, "no < in the value of an attribute")));
+        return Err(XmlError::Misfit(misfit_at(raw, Wanted::NoElementInValue)));
     }
     let parts = parts_between(alloc, '&', raw)?;
     joined(alloc, &parts)
