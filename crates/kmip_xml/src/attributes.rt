@@ -97,13 +97,13 @@ fn attribute<'a>(
     ensures { Gives (λ x. (x.0, x.1.now)) result (attribute found text.now) }
 {
     let (key, rest) = word(text);
-    let Some(rest) = equals(rest) else {
+    let Some(place) = equals(rest) else {
         return Err(XmlError::Misfit(misfit_at(rest, Wanted::Equals)));
     };
-    let Some((raw, rest)) = quoted(rest) else {
-        return Err(XmlError::Misfit(misfit_at(rest, Wanted::Quotes)));
+    let Some((raw, rest)) = quoted(place) else {
+        return Err(XmlError::Misfit(misfit_at(place, Wanted::Quotes)));
     };
-    let value = value_of(alloc, raw)?;
+    let value = value_of(alloc, raw, place)?;
     match put(key, value, found) {
         Some(more) => Ok((more, rest)),
         None => Err(XmlError::Misfit(misfit_at(text, Wanted::AttributeName))),

@@ -131,16 +131,17 @@ fn reference(name: &str) -> Option<char>
     }
 }
 
-/// Appends the character of a reference and what stands behind it; the text begins behind its `&`.
+/// Appends the character of a reference and what stands behind it; the part begins behind its `&`.
+/// Here and below an error is one at the place.
 #[tactic(auto, unfolding(crate::specs::Values::referred))]
-fn put_referred(out: &mut Text, text: &str) -> Result<(), XmlError>
-    ensures { Gives (λ _. out.new) result (option_map (λ s. out.old ++ s) (referred text.now)) }
+fn put_referred(out: &mut Text, part: &str, place: &str) -> Result<(), XmlError>
+    ensures { Gives (λ _. out.new) result (option_map (λ s. out.old ++ s) (referred part.now)) }
 {
-    let Some((name, rest)) = around(';', text) else {
-        return Err(XmlError::Misfit(misfit_at(text, Wanted::Reference)));
+    let Some((name, rest)) = around(';', part) else {
+        return Err(XmlError::Misfit(misfit_at(place, Wanted::Reference)));
     };
     let Some(ch) = reference(name) else {
-        return Err(XmlError::Misfit(misfit_at(text, Wanted::Reference)));
+        return Err(XmlError::Misfit(misfit_at(place, Wanted::Reference)));
     };
     out.push(ch)?;
     put_plain(out, rest)?;
@@ -148,36 +149,36 @@ fn put_referred(out: &mut Text, text: &str) -> Result<(), XmlError>
 }
 
 /// Appends what stands behind each `&`.
-fn put_all_referred(out: &mut Text, parts: &[&str]) -> Result<(), XmlError>
+fn put_all_referred(out: &mut Text, parts: &[&str], place: &str) -> Result<(), XmlError>
     ensures { Gives (λ _. out.new) result
         (option_map (λ s. out.old ++ s) (all_referred (map (λ part. part.now) parts.now))) }
 {
     for part in parts {
-        put_referred(out, part)?;
+        put_referred(out, part, place)?;
     }
     Ok(())
 }
 
 /// The value that stands in these parts, with an `&` between two.
-fn joined(alloc: Global, parts: &[&str]) -> Result<Text, XmlError>
+fn joined(alloc: Global, parts: &[&str], place: &str) -> Result<Text, XmlError>
     ensures { Gives (λ text. text) result (joined (map (λ part. part.now) parts.now)) }
 {
     let mut out = Text::new(alloc);
     if let [first, rest @ ..] = parts {
         put_plain(&mut out, first)?;
-        put_all_referred(&mut out, rest)?;
+        put_all_referred(&mut out, rest, place)?;
     }
     Ok(out)
 }
 
-/// The value of an attribute, by what stands between its quotes.
+/// The value of an attribute, by what stands between its quotes; its text begins at the place.
 #[tactic(auto, unfolding(crate::specs::Values::value_of))]
-pub(crate) fn value_of(alloc: Global, raw: &str) -> Result<Text, XmlError>
+pub(crate) fn value_of(alloc: Global, raw: &str, place: &str) -> Result<Text, XmlError>
     ensures { Gives (λ text. text) result (value_of raw.now) }
 {
     if around('<', raw).is_some() {
-        return Err(XmlError::Misfit(misfit_at(raw, Wanted::NoElementInValue)));
+        return Err(XmlError::Misfit(misfit_at(place, Wanted::NoElementInValue)));
     }
     let parts = parts_between(alloc, '&', raw)?;
-    joined(alloc, &parts)
+    joined(alloc, &parts, place)
 }

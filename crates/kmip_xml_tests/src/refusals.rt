@@ -9,7 +9,7 @@ use std::process::Abort;
 const ROWS: &[(&str, &str)] = &[
     (
         "",
-        "line 1, column 1: expected one element, and the end of the text behind it, found the end of the text",
+        "line 1, column 1: expected an element, a comment, or the end of the element around, found the end of the text",
     ),
     (
         "  hello",
@@ -37,7 +37,7 @@ const ROWS: &[(&str, &str)] = &[
     ),
     (
         "<BatchItem>",
-        "line 1, column 12: expected the end of the element around, found the end of the text",
+        "line 1, column 12: expected an element, a comment, or the end of the element around, found the end of the text",
     ),
     (
         "<BatchItem></Batch>",
@@ -73,15 +73,15 @@ const ROWS: &[(&str, &str)] = &[
     ),
     (
         "<BatchCount type=\"Integer\" value=\"1<2\"/>",
-        "line 1, column 35: expected no < in the value of an attribute, found a 1",
+        "line 1, column 34: expected no < in the value of an attribute, found a \"",
     ),
     (
         "<ResultMessage type=\"TextString\" value=\"a &nbsp; b\"/>",
-        "line 1, column 44: expected &quot;, &amp;, &apos;, &lt;, &gt;, or the number of a character as &#10; or &#xA;, found a n",
+        "line 1, column 40: expected &quot;, &amp;, &apos;, &lt;, &gt;, or the number of a character as &#10; or &#xA;, found a \"",
     ),
     (
         "<ResultMessage type=\"TextString\" value=\"&#0;\"/>",
-        "line 1, column 42: expected &quot;, &amp;, &apos;, &lt;, &gt;, or the number of a character as &#10; or &#xA;, found a #",
+        "line 1, column 40: expected &quot;, &amp;, &apos;, &lt;, &gt;, or the number of a character as &#10; or &#xA;, found a \"",
     ),
     (
         "<ResultMessage type=\"TextString\" value=\"\u{1}\"/>",
