@@ -1,4 +1,5 @@
-//! Items as bytes in hex: the items of KMIP 1.0, 9.1.2, and whole messages.
+//! Items as bytes in hex: the items of KMIP 1.0, 9.1.2, and whole messages. Their texts are of
+//! characters that XML has.
 pub(crate) const VECTORS: &[&str] = &[
     "42002002000000040000000800000000",
     "420020030000000801B69B4BA5749200",
