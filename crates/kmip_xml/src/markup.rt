@@ -8,7 +8,10 @@ use crate::scan::{after, around, spaced, trimmed};
 fn after_dashes(text: &str) -> Option<&str>
     ensures { option_map (λ rest. rest.now) result ≡ after_dashes text.now }
 {
-    Some(text.split_once("--")?.1)
+    match text.split_once("--") {
+        Some((_, rest)) => Some(rest),
+        None => None,
+    }
 }
 
 /// What follows a comment, of which `<!--` was read.
