@@ -5,7 +5,7 @@ use Rattle.std.specs.List.{prefix_len, position_or_len, before_first, after_firs
 use Rattle.std.specs.Str.{IsCharBoundary}
 use Rattle.std.specs.Str.Pattern.{FindsText, FindsTextPrefix, StripsPrefix, SplitsAroundMatch}
 use Rattle.std.proofs.lemmas.Bool.Decides.{nat_tests, Decides-eqb}
-use Rattle.std.proofs.lemmas.List.{drop-append_seam}
+use Rattle.std.proofs.Math.Seq.{drop-append_seam}
 use Rattle.std.proofs.lemmas.List.Sums.{prefix_len-le-length, prefix_len_passes}
 use Rattle.std.proofs.lemmas.Slice.Eq.{starts_is}
 use Rattle.std.proofs.lemmas.Str.{IsCharBoundary-start, IsCharBoundary-after_ascii}
@@ -100,5 +100,5 @@ pub dashed : (s : List ℕ) (r : Option (Bor (List ℕ) × Bor (List ℕ)))
     (λ x. SplitsAroundMatch (FindsText (codes "--")) s x.0.now x.1.now)
     → option_map (λ x. x.1.now) r ≡ after_dashes s
 dashed s None h = sym (dashes_none s h)
-dashed s (Some x) (i, j, f, a, b, rest) =
+dashed s (Some x) (i, j, f, a, b, le, m, n) =
     sym (dashes_at s x.1.now i f.0 (f.1.split ∙ ap (λ t. codes "--" ++ t) (sym b)))

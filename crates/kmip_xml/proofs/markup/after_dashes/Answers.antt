@@ -1,4 +1,4 @@
-use Rattle.std.proofs.Common.{sym, ap, ◌∙◌, option_map, Bor, List, ℕ, ◌×◌}
+use Rattle.std.proofs.Common.{sym, ap, ◌∙◌, option_map, Bor, List, ℕ}
 use Rattle.kmip_xml.proofs.Fronts.{dashed}
 use Rattle.kmip_xml.proofs.markup.after_dashes.Goals as goal
 
