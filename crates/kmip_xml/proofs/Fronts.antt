@@ -56,7 +56,7 @@ pub stripped : (front s : List ℕ) (r : Option (Bor (List ℕ)))
     → option_map (λ x. x.now) r ≡ after front s
 stripped front s None h = sym (after_none front s h)
 stripped front s (Some x) (n, f, e, l) =
-    sym (after_some front s x.now (f.1.0 ∙ ap (λ t. front ++ t) (sym e)))
+    sym (after_some front s x.now (f.1 ∙ ap (λ t. front ++ t) (sym e)))
 
 -- ---- the first of a character
 
