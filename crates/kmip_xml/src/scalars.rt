@@ -1,8 +1,7 @@
 //! The value of an item that is no structure.
 ghost use Rattle.std.specs.Prelude.{◌≡◌, ℕ, IfOk, option_map};
 ghost use Rattle.kmip_wire.specs.Sees.{tree_of_node};
-ghost use Rattle.kmip_wire.specs.Tree.{Tree, scalar, integer, long_integer, big_integer};
-ghost use Rattle.std.specs.Prelude.{map};
+ghost use Rattle.kmip_wire.specs.Tree.{scalar, integer, long_integer, big_integer, boolean};
 ghost use Rattle.std.specs.List.{slice_split};
 ghost use Rattle.std.specs.Result.{result_ok};
 ghost use Rattle.std.specs.Int.{w32, cast_signed};
