@@ -9,7 +9,7 @@ which a smaller one is faster here:
   small      400,000 calls over a link that was fed before: the client alone
   large      9 responses of 16 MiB: read into their place, checked, and copied to the payload
 
-Both are optimized. Ours is built without proof by tools/unproved_build.py with the inline hints of a proved build, and the
+Both are optimized. Ours is built without proof by tools/build.py with the inline hints of a proved build, and the
 plain one from bench/client/plain.rs. Wants `rt`, `rustc` and some 600 MB of memory; writes nothing into the repository.
 """
 import os
@@ -21,6 +21,9 @@ import tempfile
 
 HERE = os.path.dirname(os.path.abspath(__file__))
 TOP = os.path.dirname(HERE)
+sys.path.insert(0, os.path.join(TOP, 'tools', 'live'))
+from ttlv import date, integer, octets, response, structure  # noqa: E402
+
 LARGE = 16 << 20
 # The ratios that are aimed at.
 AIMS = {'make': 0.70, 'small': 0.45, 'large': 1.3}
@@ -63,27 +66,11 @@ fn main(rt: HostRuntime) -> io::Result<()> {
 '''
 
 
-def item(tag, kind, value):
-    """An item of TTLV, padded to eight bytes: KMIP 1.2, 9.1.1."""
-    return bytes.fromhex(tag) + bytes([kind]) + len(value).to_bytes(4, 'big') + value + bytes(-len(value) % 8)
-
-
-def structure(tag, *parts):
-    return item(tag, 1, b''.join(parts))
-
-
-def number(tag, kind, value):
-    return item(tag, kind, value.to_bytes(4, 'big'))
-
-
-def response(data):
+def response_to(data):
     """A response to RNG Retrieve in KMIP 1.2 with these bytes."""
-    version = structure('420069', number('42006a', 2, 1), number('42006b', 2, 2))
-    stamp = item('420092', 9, (1).to_bytes(8, 'big'))
-    header = structure('42007a', version, stamp, number('42000d', 2, 1))
-    payload = structure('42007c', item('4200c2', 8, data))
-    batch_item = structure('42000f', number('42005c', 5, 0x25), number('42007f', 5, 0), payload)
-    return structure('42007b', header, batch_item)
+    version = structure(0x420069, integer(0x42006A, 1), integer(0x42006B, 2))
+    header = structure(0x42007A, version, date(0x420092, 1), integer(0x42000D, 1))
+    return response(0x25, [octets(0x4200C2, data)], header)
 
 
 def build(work):
@@ -99,7 +86,7 @@ def build(work):
             if row.startswith('kmip_client:'):
                 out.write('client_bench: kmip_client' + row.partition(':')[2])
     for crate in ('kmip_run', 'client_bench'):
-        subprocess.run([sys.executable, f'{TOP}/tools/unproved_build.py', 'program', crate, f'{work}/{crate}', f'{work}/top'],
+        subprocess.run([sys.executable, f'{TOP}/tools/build.py', '--unproved', 'program', crate, f'{work}/{crate}', f'{work}/top'],
                        check=True, stdout=subprocess.DEVNULL, stderr=subprocess.DEVNULL)
     subprocess.run(['rustc', '--edition', '2021', '-O', '-o', f'{work}/plain', f'{HERE}/client/plain.rs'], check=True)
 
@@ -121,7 +108,7 @@ def compare(name, ours, plain, feed, rounds):
             sys.exit(f'{name}: the programs wrote {our_text[:80]} and {plain_text[:80]}')
         times[0].append(our_time)
         times[1].append(plain_time)
-    least, median = ([sorted(it)[at] for it in times] for at in (0, rounds // 2))
+    least, median = ([sorted(seconds)[at] for seconds in times] for at in (0, rounds // 2))
     print(f'{name}: ours {least[0]:.3f} s (median {median[0]:.3f}), plain {least[1]:.3f} s (median {median[1]:.3f}), '
           f'ratio {least[0] / least[1]:.2f} (median {median[0] / median[1]:.2f}), aim {AIMS[name]:.2f}')
 
@@ -131,7 +118,7 @@ def main():
     work = tempfile.mkdtemp(prefix='client-bench-')
     try:
         build(work)
-        feeds = {'none': b'', 'small': response(bytes.fromhex('deadbeef')), 'large': response(bytes(LARGE))}
+        feeds = {'none': b'', 'small': response_to(bytes.fromhex('deadbeef')), 'large': response_to(bytes(LARGE))}
         for name, value in feeds.items():
             with open(f'{work}/{name}.bin', 'wb') as out:
                 out.write(value)

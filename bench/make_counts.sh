@@ -16,8 +16,8 @@ written() { # PROGRAM
 }
 
 programs=()
-for it in "$top"/crates/kmip_run/out/kmip_run "$top"/crates/kmip_run/out/kmip_run.*; do
-    [[ ! -f $it || ! -x $it ]] || programs+=("$it")
+for program in "$top"/crates/kmip_run/out/kmip_run "$top"/crates/kmip_run/out/kmip_run.*; do
+    [[ ! -f $program || ! -x $program ]] || programs+=("$program")
 done
 ((${#programs[@]})) || give_up 'crates/kmip_run/out has no program: run rt ci first'
 

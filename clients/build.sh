@@ -94,7 +94,7 @@ step() { # TEXT COMMAND..: a line before and after
 }
 
 proved() { # KIND CRATE FILE: a line for each crate
-    if ! python3 "$top/tools/proved_build.py" "$@" "$top" 2>>"$log"; then
+    if ! python3 "$top/tools/build.py" --proved "$@" "$top" 2>>"$log"; then
         tail -20 "$log" >&2
         give_up "$log has the whole of it"
     fi
@@ -102,7 +102,7 @@ proved() { # KIND CRATE FILE: a line for each crate
 
 made() { # KIND CRATE FILE TEXT
     if [[ -n $unproved ]]; then
-        step "$4" python3 "$top/tools/unproved_build.py" "${@:1:3}" "$top"
+        step "$4" python3 "$top/tools/build.py" --unproved "${@:1:3}" "$top"
     else
         echo "$4:"
         proved "${@:1:3}"

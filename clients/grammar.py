@@ -29,14 +29,14 @@ class Grammar:
     def __init__(self, table):
         self.all, self.attributes, self.names = table['calls'], table['attributes'], table['names']
         # Those that are words alone, and no JSON.
-        self.calls = [it for it in self.all if it['rest'] != 'Nothing']
+        self.calls = [call for call in self.all if call['rest'] != 'Nothing']
 
     def words(self, call):
         """The words of a call that are no attributes."""
-        return [it for it in call['words'] if it['kind'] != 'Attribute']
+        return [word for word in call['words'] if word['kind'] != 'Attribute']
 
     def takes_attributes(self, call):
-        return call['rest'] == 'Attributes' or any(it['kind'] == 'Attribute' for it in call['words'])
+        return call['rest'] == 'Attributes' or any(word['kind'] == 'Attribute' for word in call['words'])
 
     def options(self, call):
         """The options that may stand after the words of a call, attributes too."""
@@ -55,14 +55,14 @@ def filled(front, items, last, width=100, between=', '):
 
 
 def python_calls(grammar):
-    def kind(it):
-        return PYTHON.get(it['kind'], 'NAME')
+    def kind(word):
+        return PYTHON.get(word['kind'], 'NAME')
 
     def options_of(options):
-        return ['%r: %s' % (bare(it), kind(it)) for it in options]
+        return ['%r: %s' % (bare(option), kind(option)) for option in options]
     lines = ['CALLS: Dict[str, Tuple[Kind, ...]] = {']
     for call in grammar.calls:
-        kinds = [kind(it) for it in grammar.words(call)]
+        kinds = [kind(word) for word in grammar.words(call)]
         lines.append('    %r: (%s%s),' % (call['name'], ', '.join(kinds), ',' if len(kinds) == 1 else ''))
     lines += ['}', '', *filled('ATTRIBUTES = {', options_of(grammar.attributes), '}'),
               'OPTIONS: Dict[str, Dict[str, Kind]] = {']
@@ -81,7 +81,7 @@ def python_calls(grammar):
 
 def python_uses(grammar):
     names = textwrap.wrap(', '.join(map(repr, grammar.names['Uses'])), 95)
-    return ['USES = {name: 1 << at for at, name in enumerate((', *('    ' + it for it in names[:-1]),
+    return ['USES = {name: 1 << at for at, name in enumerate((', *('    ' + name for name in names[:-1]),
             '    %s))}' % names[-1]]
 
 
@@ -101,11 +101,11 @@ def c_calls(grammar):
 
 def rust_calls(grammar):
     def listed(options):
-        return '&[%s]' % ', '.join('"%s"' % bare(it) for it in options)
+        return '&[%s]' % ', '.join('"%s"' % bare(option) for option in options)
     lines = ['const ATTRIBUTES: &[&str] =', '    %s;' % listed(grammar.attributes)]
     rows = []
     for call in grammar.calls:
-        kinds = ', '.join('Kind::' + RUST.get(it['kind'], 'Text') for it in grammar.words(call))
+        kinds = ', '.join('Kind::' + RUST.get(word['kind'], 'Text') for word in grammar.words(call))
         options = listed(call['options'])
         if grammar.takes_attributes(call):
             options = 'ATTRIBUTES'
@@ -131,21 +131,21 @@ def shell_calls(grammar):
 
 
 def completion_calls(grammar):
-    lines = filled('_kmip_calls=(', [it['name'] for it in grammar.all], ')', 120, ' ')
+    lines = filled('_kmip_calls=(', [one['name'] for one in grammar.all], ')', 120, ' ')
     # how many words stand before the options of a call, and which options they are
     lines.append('declare -gA _kmip_plain=(')
-    lines += filled('    ', ['[%s]=%d' % (it['name'], len(grammar.words(it))) for it in grammar.calls], '', 120, ' ')
+    lines += filled('    ', ['[%s]=%d' % (one['name'], len(grammar.words(one))) for one in grammar.calls], '', 120, ' ')
     lines += [')', 'declare -gA _kmip_options=(']
     for call in grammar.calls:
         if grammar.options(call):
-            lines.append("    [%s]='%s'" % (call['name'], ' '.join(it['name'] for it in grammar.options(call))))
+            lines.append("    [%s]='%s'" % (call['name'], ' '.join(option['name'] for option in grammar.options(call))))
     # of which kind a word or the value of an option is, where it is one of several names
     lines += [')', 'declare -gA _kmip_kinds=(']
     for call in grammar.calls:
-        known = ['[%s.%d]=%s' % (call['name'], at, it['kind']) for at, it in enumerate(grammar.words(call), 1)
-                 if it['kind'] in grammar.names]
-        known += ['[%s.%s]=%s' % (call['name'], it['name'], it['kind']) for it in grammar.options(call)
-                  if it['kind'] in grammar.names]
+        known = ['[%s.%d]=%s' % (call['name'], at, word['kind']) for at, word in enumerate(grammar.words(call), 1)
+                 if word['kind'] in grammar.names]
+        known += ['[%s.%s]=%s' % (call['name'], option['name'], option['kind']) for option in grammar.options(call)
+                  if option['kind'] in grammar.names]
         if known:
             lines += filled('    ', known, '', 120, ' ')
     lines += [')', 'declare -gA _kmip_names=(']
@@ -162,11 +162,11 @@ def sentence(text):
 def man_calls(grammar):
     lines = ['.Bl -tag -width Ds']
     for call in grammar.all:
-        words = ['Ar %s' % it['name'].lower() for it in call['words']]
+        words = ['Ar %s' % word['name'].lower() for word in call['words']]
         options = []
-        for it in call['options']:
-            option = 'Cm %s' % it['name'] + (' Ns Ar value' if it['name'].endswith('=') else '')
-            options.append(option if it['is_needed'] else 'Oo %s Oc' % option)
+        for option in call['options']:
+            made = 'Cm %s' % option['name'] + (' Ns Ar value' if option['name'].endswith('=') else '')
+            options.append(made if option['is_needed'] else 'Oo %s Oc' % made)
         if call['rest'] == 'Nothing':
             words[1:1] = options
             options = []
@@ -197,7 +197,7 @@ def man_values(grammar):
 
 def page_calls(grammar):
     return ['| CALL | what it asks for |', '|---|---|',
-            *('| `%s` | %s |' % (it['form'].replace(', or ', '`, or `'), it['help']) for it in grammar.all)]
+            *('| `%s` | %s |' % (call['form'].replace(', or ', '`, or `'), call['help']) for call in grammar.all)]
 
 
 # Each file, with the block that it has of each name.
@@ -215,7 +215,7 @@ BLOCKS = {
 def replaced(text, name, lines, path):
     """The text with these lines in the block of this name."""
     block = re.compile(r'^(.*clients/grammar\.py: %s\b.*\n)(?:.*\n)*?(.*clients/grammar\.py: end\b.*\n)' % name, re.M)
-    made, count = block.subn(lambda it: it[1] + ''.join(line + '\n' for line in lines) + it[2], text)
+    made, count = block.subn(lambda found: found[1] + ''.join(line + '\n' for line in lines) + found[2], text)
     if count != 1:
         sys.exit('grammar.py: %s has %d blocks of the name %s, and not one' % (path, count, name))
     return made

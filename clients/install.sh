@@ -58,9 +58,9 @@ while (($#)); do
 done
 libdir=${libdir:-$prefix/lib}
 modules=${modules:-$libdir/ossl-modules}
-for it in "${prefix:-/}" "$libdir" "$modules"; do
+for path in "${prefix:-/}" "$libdir" "$modules"; do
     # make and ld know no such path.
-    [[ $it == /* && $it != *[[:space:]]* ]] || give_up "$it is no absolute path without spaces"
+    [[ $path == /* && $path != *[[:space:]]* ]] || give_up "$path is no absolute path without spaces"
 done
 top=$(cd "$(dirname "$0")/.." && pwd)
 if [[ -n $destdir ]]; then
@@ -92,19 +92,19 @@ put() { # MODE FILE TARGET: the file, where it is there
 }
 
 install_all() {
-    local it
+    local part file page name
     built=${built:-$top/built}
-    for it in kmip_call libmetsuwan.a libmetsuwan.so; do
-        [[ -f $built/$it ]] || give_up "there is no $built/$it: clients/build.sh makes it"
+    for part in kmip_call libmetsuwan.a libmetsuwan.so; do
+        [[ -f $built/$part ]] || give_up "there is no $built/$part: clients/build.sh makes it"
     done
     cp "$built"/libmetsuwan.{a,so} "$work"
     libraries install
     put 755 "$built/kmip_call" "$destdir$prefix/bin/kmip_call"
     put 755 "$built/kmip_ttlv" "$destdir$prefix/bin/kmip_ttlv"
-    for it in kmip.sh kmip_keys.sh; do put 755 "$top/clients/shell/$it" "$destdir$prefix/bin/$it"; done
-    for it in "${pages[@]}"; do put 644 "$top/clients/man/$it" "$share/man/man1/$it"; done
-    for it in "${completed[@]}"; do
-        put 644 "$top/clients/shell/completion.bash" "$share/bash-completion/completions/$it"
+    for file in kmip.sh kmip_keys.sh; do put 755 "$top/clients/shell/$file" "$destdir$prefix/bin/$file"; done
+    for page in "${pages[@]}"; do put 644 "$top/clients/man/$page" "$share/man/man1/$page"; done
+    for name in "${completed[@]}"; do
+        put 644 "$top/clients/shell/completion.bash" "$share/bash-completion/completions/$name"
     done
     put 644 "$built/kmip.html" "$share/metsuwan/kmip.html"
     if [[ -f $built/kmip32.html ]]; then put 644 "$built/kmip32.html" "$share/metsuwan/kmip32.html"; fi
@@ -118,8 +118,8 @@ uninstall_all() {
         "${completed[@]/#/$share/bash-completion/completions/}" "$share/metsuwan"/kmip{,32}.html \
         "$share/doc/metsuwan/LICENSE" "$destdir$modules/metsuwan.so"
     # Folders that nothing else is in.
-    for it in "$share/metsuwan" "$share/doc/metsuwan"; do
-        if [[ -d $it ]]; then rmdir --ignore-fail-on-non-empty "$it"; fi
+    for folder in "$share/metsuwan" "$share/doc/metsuwan"; do
+        if [[ -d $folder ]]; then rmdir --ignore-fail-on-non-empty "$folder"; fi
     done
 }
 

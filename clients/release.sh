@@ -46,8 +46,8 @@ while (($#)); do
     shift
 done
 [[ -n $target ]] || usage
-for it in gcc:gcc make:make tar:tar gzip:gzip dpkg-deb:dpkg readelf:binutils; do
-    type -P "${it%:*}" >/dev/null || give_up "there is no ${it%:*} (Debian: apt-get install ${it#*:})"
+for tool in gcc:gcc make:make tar:tar gzip:gzip dpkg-deb:dpkg readelf:binutils; do
+    type -P "${tool%:*}" >/dev/null || give_up "there is no ${tool%:*} (Debian: apt-get install ${tool#*:})"
 done
 [[ $(uname -sm) == 'Linux x86_64' ]] || give_up 'it is made for Linux on x86-64, and there alone'
 [[ -f $built/libmetsuwan.a ]] || give_up "there is no $built/libmetsuwan.a: clients/build.sh makes it"
@@ -84,13 +84,13 @@ pack() { # FILE FOLDER NAME: a tar that tells nothing of who made it
 
 # The folder that may lie anywhere: its .pc files say where they are, and pkg-config goes on from there.
 make_tar() {
-    local name=metsuwan-$version-linux-x86_64 it
+    local name=metsuwan-$version-linux-x86_64 file
     mkdir "$work/$name"
     "$top/clients/install.sh" --built "$built" --prefix /P --destdir "$work/staged"
     mv "$work/staged/P"/* "$work/$name"
-    for it in "$work/$name"/lib/pkgconfig/*.pc; do
+    for file in "$work/$name"/lib/pkgconfig/*.pc; do
         # shellcheck disable=SC2016 # pkg-config's own names
-        sed -i 's|^prefix=/P$|prefix=${pcfiledir}/../..|; s|=/P/|=${prefix}/|' "$it"
+        sed -i 's|^prefix=/P$|prefix=${pcfiledir}/../..|; s|=/P/|=${prefix}/|' "$file"
     done
     cp "$top/LICENSE" "$work/$name"
     printf 'Metsuwan %s, for Linux on x86-64 with glibc %s or later; libmetsuwan_tls and the provider want OpenSSL 3.\n' \

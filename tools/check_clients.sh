@@ -1,5 +1,5 @@
 #!/bin/bash
-# The checks of the clients that need no server: linters, and the cases of tools/live against fake servers.
+# The checks of the clients that need no server: linters, and the cases against fake servers (tools/live/harness.sh).
 #
 #   tools/check_clients.sh [--built DIR] [--seconds N] [--least NAME=N].. [--client NAME].. [--topic NAME]..
 #
@@ -18,41 +18,16 @@ set -u
 top=$(cd "$(dirname "$0")/.." && pwd)
 . "$top/tools/live/harness.sh"
 
-usage() {
-    sed -n '4s/^# */usage: /p' "$0" >&2
-    exit 2
+least=() until=190 again=1 may_skip=1
+own_words() {
+    [[ $1=${2-} =~ ^--(seconds=[0-9]+|least=[a-z]+=[0-9]+)$ ]] || return
+    if [[ $1 == --seconds ]]; then until=$2; else least+=("$2"); fi
 }
-built='' chosen=() least=() until=190 again=1 may_skip=1
-while (($#)); do
-    case $1 in
-    --help) sed -n '2,/^# shellcheck/{/shellcheck/d;s/^# \{0,1\}//p}' "$0" && exit ;;
-    --built | --seconds | --least | --client | --topic)
-        (($# > 1)) || usage
-        case $1 in
-        --built) built=$(cd "$2" && pwd) || exit 2 ;;
-        --seconds) until=$2 ;;
-        --least)
-            [[ $2 =~ ^[a-z]+=[0-9]+$ ]] || usage
-            least+=("$2")
-            ;;
-        --client) chosen+=("$2") ;;
-        --topic) topics+=("$2") ;;
-        esac
-        shift
-        ;;
-    *) usage ;;
-    esac
-    shift
-done
-((${#chosen[@]} == 0)) || clients=("${chosen[@]}")
-for who in "${clients[@]}"; do [[ -d $here/$who ]] || give_up "there is no client $who"; done
-
-if ! run=$(mktemp -d -t kmip-check-XXXXXX); then
+read_words "$@"
+if ! make_run check; then
     printf 'skipped all: no temporary folder can be made\n0 passed, 0 failed\n'
     exit 0
 fi
-trap 'rm -rf "$run"' EXIT
-trap 'exit 130' INT TERM
 
 # The files of the clients, the tools and the tables that end so.
 files_of() { # REGEX
@@ -85,26 +60,26 @@ proved_build() { # FILE
 
 # The first of these that is missing, with its package.
 lacking() { # COMMAND:PACKAGE..
-    local it
-    for it in "$@"; do
-        type -P "${it%:*}" >/dev/null && continue
-        printf '%s (Debian: apt-get install %s)\n' "${it%:*}" "${it#*:}"
+    local tool
+    for tool in "$@"; do
+        type -P "${tool%:*}" >/dev/null && continue
+        printf '%s (Debian: apt-get install %s)\n' "${tool%:*}" "${tool#*:}"
         return
     done
 }
 
 # Begins to build what the clients stand on, both parts at once, in $run/kmip_call and $run/libkmip_c.a.
 begin_builds() {
-    local made left=$((until > SECONDS ? until - SECONDS : 1)) it kind file parts=(program:kmip_call:kmip_call)
+    local made left=$((until > SECONDS ? until - SECONDS : 1)) part kind file parts=(program:kmip_call:kmip_call)
     if [[ -n $built ]] || ! type -P rt >/dev/null; then return; fi
     [[ -n $no_library ]] || parts+=(library:kmip_c:libkmip_c.a)
     mkdir -p "$run/tmp"
-    for it in "${parts[@]}"; do
-        IFS=: read -r kind it file <<<"$it"
-        if made=$(proved_build "$top/crates/$it/out/$file"); then
+    for part in "${parts[@]}"; do
+        IFS=: read -r kind part file <<<"$part"
+        if made=$(proved_build "$top/crates/$part/out/$file"); then
             cp "$made" "$run/$file"
         else
-            TMPDIR=$run/tmp timeout "$left" "$python" "$top/tools/unproved_build.py" "$kind" "$it" "$run/$file" "$top" \
+            TMPDIR=$run/tmp timeout "$left" "$python" "$top/tools/build.py" --unproved "$kind" "$part" "$run/$file" "$top" \
                 >"$run/$kind.log" 2>&1 &
             builders[$kind]=$!
             started+=($!)
@@ -158,8 +133,8 @@ cases() {
             return
         fi
         clients=()
-        for it in "${all[@]}"; do
-            if [[ $it == shell ]]; then run_cases library 8 shell; else clients+=("$it"); fi
+        for who in "${all[@]}"; do
+            if [[ $who == shell ]]; then run_cases library 8 shell; else clients+=("$who"); fi
         done
     fi
     export KMIP_CALL=$built/kmip_call
@@ -168,8 +143,8 @@ cases() {
 
 # The client in Rust takes longest to build: that is done while the cases of the others run.
 rest_of_cases() {
-    local builder='' others=() it
-    for it in "${clients[@]}"; do [[ $it == rust ]] || others+=("$it"); done
+    local builder='' others=() who
+    for who in "${clients[@]}"; do [[ $who == rust ]] || others+=("$who"); done
     if ((${#others[@]} < ${#clients[@]})); then
         (clients=(rust) && build_clients && ((${#clients[@]} > 0)) && : >"$run/rust.is_built") &
         builder=$!
@@ -194,14 +169,7 @@ check() {
         echo "skipped the clients: there is no $missing"
         return
     fi
-    unset KMIP_USER KMIP_PASSWORD KMIP_LIMIT KMIP_RECORD KMIP_TIMEOUT KMIP_PASSPHRASE KMIP_PASSPHRASE_FILE
-    certs=$run/certs
-    if "$here/certs.sh" "$certs" >"$run/certs.log" 2>&1 && start_fakes; then
-        cases
-    else
-        echo 'FAILED  the certificates are not made, or the fake servers are not reached at localhost'
-        tail -5 "$run/certs.log" | sed 's/^/        /'
-    fi
+    begin_servers && cases
 }
 
 count check

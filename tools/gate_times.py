@@ -56,8 +56,8 @@ def crates_of(top):
 
 def stat_of(pid):
     """Returns the parent of a process, and the processor seconds and the bytes of memory that it took itself."""
-    with open(f'/proc/{pid}/stat', encoding='utf-8', errors='replace') as it:
-        fields = it.read().rpartition(')')[2].split()
+    with open(f'/proc/{pid}/stat', encoding='utf-8', errors='replace') as file:
+        fields = file.read().rpartition(')')[2].split()
     return int(fields[1]), (int(fields[11]) + int(fields[12])) / TICKS, int(fields[21]) * PAGE
 
 
@@ -86,7 +86,7 @@ def processes_below(root):
                 return pid == root
             pid = found[pid][0]
         return False
-    return {pid: it[1:] for pid, it in found.items() if is_below(pid)}
+    return {pid: parent[1:] for pid, parent in found.items() if is_below(pid)}
 
 
 def watch(root, seen):
@@ -96,8 +96,8 @@ def watch(root, seen):
         at_once += memory
         if not seen.known.get(pid):  # a process that was just forked has the words of its parent until it becomes the prover
             try:
-                with open(f'/proc/{pid}/cmdline', encoding='utf-8', errors='replace') as it:
-                    words = it.read().split('\0')
+                with open(f'/proc/{pid}/cmdline', encoding='utf-8', errors='replace') as file:
+                    words = file.read().split('\0')
                 seen.known[pid] = phase_of(words, os.readlink(f'/proc/{pid}/cwd'))
             except OSError:
                 continue
@@ -114,7 +114,7 @@ def table(crates, spent, memory, at_once, wall):
 
     def chain(name):
         if name not in chains:
-            below = max((chain(it) for it in crates[name] if it in crates), key=lambda it: it[0], default=(0, []))
+            below = max((chain(one) for one in crates[name] if one in crates), key=lambda one: one[0], default=(0, []))
             chains[name] = below[0] + minutes(name, 'own'), below[1] + [name]
         return chains[name]
     print('| crate | own proof | tests | edits | together | memory, GB |\n|---|---|---|---|---|---|')
@@ -124,7 +124,7 @@ def table(crates, spent, memory, at_once, wall):
             print(f'| {name} | {row[0]:.1f} | {row[1]:.1f} | {row[2]:.1f} | {sum(row):.1f} | {memory.get(name, 0) / 1e9:.1f} |')
     sums = [sum(minutes(name, phase) for name in crates) for phase in PHASES]
     print(f'| all | {sums[0]:.1f} | {sums[1]:.1f} | {sums[2]:.1f} | {sum(sums):.1f} | {max(memory.values(), default=0) / 1e9:.1f} |')
-    length, names = max((chain(name) for name in crates), key=lambda it: it[0])
+    length, names = max((chain(name) for name in crates), key=lambda one: one[0])
     print(f'\nlongest chain: {length:.1f} processor minutes: {", ".join(names)}')
     print(f'most memory at once: {at_once / 1e9:.1f} GB')
     print(f'from first to last: {wall / 60:.1f} minutes')
@@ -134,8 +134,8 @@ def read(logs):
     spent, memory, whole = {}, {}, {'wall': 0, 'at_once': 0}
     lines = []
     for log in logs:
-        with open(log, encoding='utf-8', errors='replace') as it:
-            lines += it.read().splitlines()
+        with open(log, encoding='utf-8', errors='replace') as file:
+            lines += file.read().splitlines()
     for line in lines:
         row = re.fullmatch(r'gate_times: (\w+) (own|tests|edits|memory) ([\d.]+)', line)
         if row and row[2] == 'memory':
@@ -178,8 +178,8 @@ def main():
         wall = time.time() - begin
         log.seek(0, os.SEEK_END)
         write(log, seen, wall)
-    with open('gate_times.log', encoding='utf-8', errors='replace') as it:
-        print(it.read().split('gate_times: ')[0].rstrip('\n').rpartition('\n')[2])
+    with open('gate_times.log', encoding='utf-8', errors='replace') as file:
+        print(file.read().split('gate_times: ')[0].rstrip('\n').rpartition('\n')[2])
     table(crates_of('.'), seen.spent(), seen.memory, seen.at_once, wall)
     return run.returncode
 

@@ -62,7 +62,7 @@ def hint_for(table, name):
         if found:
             # several impls of one file: that whose words stand in the name, as Vec and Drop in VecDrop
             holder = parts[at] if at < len(parts) - 1 else ''
-            return max(found, key=lambda it: sum(len(word) for word in set(re.findall(r'[A-Z]\w+', it[0]))
+            return max(found, key=lambda one: sum(len(word) for word in set(re.findall(r'[A-Z]\w+', one[0]))
                                                  if word in holder))[1]
     return frozenset()
 

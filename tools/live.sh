@@ -5,8 +5,8 @@
 #
 # It installs the server and what the clients are built with where they are missing (Debian; it needs root for that), builds
 # kmip_call and the library by clients/build.sh (proved; with --unproved optimized and not proved), makes an authority and
-# certificates, starts the server and the fakes, and has each client live through the cases of tools/live: tools/live/each
-# for every client, tools/live/CLIENT for one. The last line is `N passed, M failed`, and the status is 0 where none failed.
+# certificates, starts the server and the fakes, and has each client live through the cases: those of tools/live/each for every
+# client, of clients/CLIENT/tests/live for one. The last line is `N passed, M failed`, and the status is 0 where none failed.
 #
 #   --built DIR    takes what is in this folder, which clients/build.sh made before
 #   --client NAME  this client alone (shell, c, python, rust, or openssl, the provider), or these
@@ -23,43 +23,19 @@ set -u
 top=$(cd "$(dirname "$0")/.." && pwd)
 . "$top/tools/live/harness.sh"
 
-usage() {
-    sed -n '4s/^# *//p' "$0" >&2
-    exit 2
-}
-built='' unproved=() measure=0 keep='' chosen=()
-while (($#)); do
-    case $1 in
-    --help) sed -n '2,/^# shellcheck/{/shellcheck/d;s/^# \{0,1\}//p}' "$0" && exit ;;
-    --unproved) unproved=(--unproved) ;;
-    --keep) keep=1 ;;
-    --built | --client | --topic | --measure | --slack)
-        (($# > 1)) || usage
-        case $1 in
-        --built) built=$(cd "$2" && pwd) || exit 2 ;;
-        --client) chosen+=("$2") ;;
-        --topic) topics+=("$2") ;;
-        --measure) measure=$2 ;;
-        --slack)
-            [[ $2 =~ ^[1-9][0-9]?$ ]] || usage
-            slack=$2
-            ;;
-        esac
-        shift
+unproved=() measure=0 keep=''
+own_words() {
+    case $1=${2-} in
+    --unproved=*) unproved=(--unproved) took=1 ;;
+    --keep=*) keep=1 took=1 ;;
+    *)
+        [[ $1=${2-} =~ ^--(measure=[0-9]+|slack=[1-9][0-9]?)$ ]] || return
+        if [[ $1 == --measure ]]; then measure=$2; else slack=$2; fi
         ;;
-    *) usage ;;
     esac
-    shift
-done
-((${#chosen[@]} == 0)) || clients=("${chosen[@]}")
-for who in "${clients[@]}"; do [[ -d $here/$who ]] || give_up "there is no client $who"; done
-
-run=$(mktemp -d -t kmip-live-XXXXXX)
-finish() {
-    if [[ -n $keep ]]; then echo "kept: $run"; else rm -rf "$run"; fi
 }
-trap finish EXIT
-trap 'exit 130' INT TERM
+read_words "$@"
+make_run live || give_up 'no temporary folder can be made'
 
 install() {
     local missing=()
@@ -81,7 +57,7 @@ time_calls() {
     host=localhost port=$server_port certificate=$certs/client.pem key=$certs/client.key authority=$certs/ca.pem patience=3600
     for client in "${clients[@]}"; do
         if [[ $client == openssl ]]; then continue; fi # it has no such program
-        . "$here/$client/client.sh"
+        . "$(folder_of "$client")/client.sh"
         client_run life "$run/measured" "$measure"
     done
     "$python" -B "$here/measure.py" "$server_port" "$certs" "$KMIP_CALL" "$measure"
@@ -94,13 +70,10 @@ live() {
         "$top/clients/build.sh" ${unproved[@]+"${unproved[@]}"} "$built" || give_up 'no build'
     fi
     export KMIP_CALL=$built/kmip_call
-    unset KMIP_USER KMIP_PASSWORD KMIP_LIMIT KMIP_RECORD KMIP_TIMEOUT KMIP_PASSPHRASE KMIP_PASSPHRASE_FILE
-    certs=$run/certs
-    "$here/certs.sh" "$certs" || give_up 'no certificates'
+    begin_servers || return
     server_port=$(free_port)
     "$here/start_server.sh" "$run" "$server_port" || give_up 'no server'
     started+=("$(cat "$run/server.pid")")
-    start_fakes || give_up 'the fake servers do not listen'
     build_clients
     run_cases fakes 8 "${clients[@]}"
     run_cases server 1 "${clients[@]}"

@@ -27,8 +27,8 @@ triplet=$(gcc -dumpmachine)
 apt=$folder/apt
 mkdir -p "$apt/lists/partial" "$apt/archives/partial"
 : >"$apt/status"
-for it in "$suite" sid; do
-    printf 'deb [signed-by=/usr/share/keyrings/debian-archive-keyring.gpg] http://deb.debian.org/debian %s main\n' "$it"
+for name in "$suite" sid; do
+    printf 'deb [signed-by=/usr/share/keyrings/debian-archive-keyring.gpg] http://deb.debian.org/debian %s main\n' "$name"
 done | sort -u >"$apt/sources"
 cat >"$apt/conf" <<END
 Dir::Etc::sourcelist "$apt/sources";
@@ -44,16 +44,16 @@ export APT_CONFIG=$apt/conf
 apt-get -q update >"$apt/log" 2>&1 || give_up "apt-get update: see $apt/log"
 DEBIAN_FRONTEND=noninteractive apt-get -y --download-only -t "$suite" install openssl libssl-dev libc6 libgcc-s1 \
     >>"$apt/log" 2>&1 || give_up "no openssl of $suite: see $apt/log"
-for it in "$apt"/archives/*.deb; do dpkg -x "$it" "$folder"; done
+for package in "$apt"/archives/*.deb; do dpkg -x "$package" "$folder"; done
 
 lib=$folder/usr/lib/$triplet
 loader=$(echo "$lib"/ld-linux*.so.*)
 [[ -x $loader ]] || give_up "no loader in $lib"
 mkdir "$folder/bin"
 printf '#!/bin/sh\nexec %s --library-path %s %s "$@"\n' "$loader" "$lib" "$folder/usr/bin/openssl" >"$folder/bin/openssl"
-for it in gcc cc; do
+for compiler in gcc cc; do
     printf '#!/bin/sh\nexec /usr/bin/%s -I%s -I%s "$@" -L%s -Wl,-rpath=%s,--dynamic-linker=%s,--allow-shlib-undefined\n' \
-        "$it" "$folder/usr/include" "$folder/usr/include/$triplet" "$lib" "$lib" "$loader" >"$folder/bin/$it"
+        "$compiler" "$folder/usr/include" "$folder/usr/include/$triplet" "$lib" "$lib" "$loader" >"$folder/bin/$compiler"
 done
 chmod +x "$folder"/bin/*
 rm -r "$apt"

@@ -197,7 +197,7 @@ def above():
     below = {name.split()[0]: set(uses.split()) for name, colon, uses in rows if colon}
 
     def stands_on(crate, other):
-        return crate == other or any(stands_on(it, other) for it in below.get(crate, ()))
+        return crate == other or any(stands_on(use, other) for use in below.get(crate, ()))
     return {other: {crate for crate in below if stands_on(crate, other)} for other in below}
 
 
@@ -206,7 +206,7 @@ def callers(form, code):
     found = set()
     for crate, text in code:
         for place in re.finditer(form, text):
-            found.update((crate, it) for it in re.findall(r"\bfn (\w+)", text[:place.start()])[-1:])
+            found.update((crate, name) for name in re.findall(r"\bfn (\w+)", text[:place.start()])[-1:])
     return found
 
 
@@ -226,12 +226,12 @@ def test_through(crate, call, files, code, stand, owners):
     (`owners`, by crate and name)."""
     _, kind, name = call
 
-    def callers_of(of, it):
+    def callers_of(of, name):
         above_it = [row for row in code if row[0] in stand[of]]
-        return callers(r"(?<![\w.])(?<!fn )%s(?:::<[^;()]*>)?\(" % it, above_it) - {(of, it)}
+        return callers(r"(?<![\w.])(?<!fn )%s(?:::<[^;()]*>)?\(" % name, above_it) - {(of, name)}
     if kind:
         # a method, in the files that take its type from its crate, or a function that returns one
-        makers = [it for of, text in code if of == crate for _, it, signature, _ in signatures(text)
+        makers = [name for of, text in code if of == crate for _, name, signature, _ in signatures(text)
                   if re.search(r"->.*\b%s\b" % kind, signature, re.S)]
         takes = r"use [^;.]*\b(?:%s)\b[^;.]*;" % "|".join([kind, *makers])
         ahead = callers(r"\.%s\(" % name, [row for row in code if row[0] in stand[crate] and re.search(takes, row[1])])
@@ -241,14 +241,14 @@ def test_through(crate, call, files, code, stand, owners):
     while ahead:
         ahead = sorted(ahead - seen)
         seen.update(ahead)
-        for of, it in ahead:
+        for of, name in ahead:
             for where, text, _ in files:
-                if where.split("/")[0] not in stand[of] or not re.search(r"(?<!fn )\b%s(?:::<[^;()]*>)?\(" % it, text):
+                if where.split("/")[0] not in stand[of] or not re.search(r"(?<!fn )\b%s(?:::<[^;()]*>)?\(" % name, text):
                     continue
-                kinds = owners.get((of, it), ())
+                kinds = owners.get((of, name), ())
                 if not kinds or any(mentions(kind, where, files) for kind in kinds):
-                    return f"{where}, through {it}"
-        ahead = {above_it for of, it in ahead for above_it in callers_of(of, it)}
+                    return f"{where}, through {name}"
+        ahead = {above_it for of, name in ahead for above_it in callers_of(of, name)}
     return None
 
 
@@ -283,7 +283,7 @@ def main():
         if crate == "kmip_tests":
             continue
         # the tests of this crate and of those above it, first those that name it
-        near = sorted((it for it in files if it[0].split("/")[0] in stand[crate]),
+        near = sorted((file for file in files if file[0].split("/")[0] in stand[crate]),
                       key=lambda item: (crate not in item[2], item[0]))
         for call in sorted(public_calls(os.path.join(CRATES, crate))):
             _, kind, name = call

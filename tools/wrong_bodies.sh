@@ -28,11 +28,11 @@ if (($#)); then
     names=("$@")
 else
     names=()
-    for it in "$top"/wrong_bodies/*/; do names+=("$(basename "$it")"); done
+    for folder in "$top"/wrong_bodies/*/; do names+=("$(basename "$folder")"); done
 fi
-for it in "${names[@]}"; do
-    [[ $it =~ ^[a-z0-9_]+$ && -d $top/wrong_bodies/$it ]] || give_up 2 "there is no folder wrong_bodies/$it"
-    grep -q "^${it}[ :]" "$top/crates.txt" || give_up 2 "crates.txt names no crate $it"
+for crate in "${names[@]}"; do
+    [[ $crate =~ ^[a-z0-9_]+$ && -d $top/wrong_bodies/$crate ]] || give_up 2 "there is no folder wrong_bodies/$crate"
+    grep -q "^${crate}[ :]" "$top/crates.txt" || give_up 2 "crates.txt names no crate $crate"
 done
 
 # The lines of crates.txt of these crates and of those below them.
@@ -63,7 +63,7 @@ while IFS=' :' read -r name _; do
         [[ ! -d $top/crates/$name/$part ]] || cp -R "$top/crates/$name/$part" "$room/crates/$name/"
     done
 done <"$room/crates.txt"
-for it in "${names[@]}"; do cp -R "$top/wrong_bodies/$it" "$room/crates/$it/must-fail"; done
+for crate in "${names[@]}"; do cp -R "$top/wrong_bodies/$crate" "$room/crates/$crate/must-fail"; done
 
 edits=("$room"/crates/*/must-fail/*.edit)
 printf 'trying %d wrong bodies of %d crates\n' "${#edits[@]}" "${#names[@]}"

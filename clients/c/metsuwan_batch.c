@@ -53,19 +53,15 @@ typedef struct {
     size_t whole_len, length;
 } part;
 
-static uint32_t number_at(const uint8_t *bytes) {
-    return (uint32_t)bytes[0] << 24 | (uint32_t)bytes[1] << 16 | (uint32_t)bytes[2] << 8 | bytes[3];
-}
-
 static uint64_t id_at(const uint8_t *bytes) {
-    return (uint64_t)number_at(bytes) << 32 | number_at(bytes + 4);
+    return (uint64_t)kmip_number_at(bytes) << 32 | kmip_number_at(bytes + 4);
 }
 
 /* The item of a structure that begins here, of so many bytes to the structure's end; or what is
    wrong with it. */
 static const char *read_part(const uint8_t *at, size_t left, part *into) {
     if (left < HEAD) return "an item without its head";
-    *into = (part){number_at(at) >> 8, at[3], at, at + HEAD, 0, number_at(at + 4)};
+    *into = (part){kmip_number_at(at) >> 8, at[3], at, at + HEAD, 0, kmip_number_at(at + 4)};
     size_t pad = into->type == STRUCTURE ? 0 : (8 - into->length % 8) % 8;
     if (into->length > left - HEAD || pad > left - HEAD - into->length)
         return "an item without its end";
@@ -76,22 +72,22 @@ static const char *read_part(const uint8_t *at, size_t left, part *into) {
 /* What is wrong with the items of a structure, or a null pointer. */
 static const char *wrong_with(const part *structure) {
     const char *wrong = NULL;
-    part it;
-    for (size_t at = 0; !wrong && at < structure->length; at += it.whole_len)
-        wrong = read_part(structure->contents + at, structure->length - at, &it);
+    part own;
+    for (size_t at = 0; !wrong && at < structure->length; at += own.whole_len)
+        wrong = read_part(structure->contents + at, structure->length - at, &own);
     return wrong;
 }
 
-/* Goes to the next item of a structure that is well formed, from the first where `it` has none of
+/* Goes to the next item of a structure that is well formed, from the first where `own` has none of
    its bytes; false: there is none. */
-static bool next_part(const part *structure, part *it) {
-    size_t at = it->whole ? (size_t)(it->whole - structure->contents) + it->whole_len : 0;
+static bool next_part(const part *structure, part *own) {
+    size_t at = own->whole ? (size_t)(own->whole - structure->contents) + own->whole_len : 0;
     return at < structure->length &&
-           !read_part(structure->contents + at, structure->length - at, it);
+           !read_part(structure->contents + at, structure->length - at, own);
 }
 
-static bool is_structure(const part *it, uint32_t tag) {
-    return it->tag == tag && it->type == STRUCTURE;
+static bool is_structure(const part *own, uint32_t tag) {
+    return own->tag == tag && own->type == STRUCTURE;
 }
 
 /* The first item with this tag in a structure that is well formed. */
@@ -109,62 +105,53 @@ typedef struct {
     bool failed;
 } writer;
 
-static void put(writer *it, const uint8_t *bytes, size_t count) {
-    size_t room = it->room.room;
-    if (!it->failed && count > room - it->length)
-        it->failed = count > SIZE_MAX / 4 || room > SIZE_MAX / 4 ||
-                     !kmip_room_has(&it->room, 2 * (room + count));
-    if (it->failed || count == 0) return;
-    memcpy(it->room.bytes + it->length, bytes, count);
-    it->length += count;
+static void put(writer *out, const uint8_t *bytes, size_t count) {
+    size_t room = out->room.room;
+    if (!out->failed && count > room - out->length)
+        out->failed = count > SIZE_MAX / 4 || room > SIZE_MAX / 4 ||
+                      !kmip_room_has(&out->room, 2 * (room + count));
+    if (out->failed || count == 0) return;
+    memcpy(out->room.bytes + out->length, bytes, count);
+    out->length += count;
 }
 
-static void put_head(writer *it, uint32_t tag, uint8_t type, uint32_t length) {
-    const uint32_t words[] = {tag << 8 | type, length};
+static void put_head(writer *out, uint32_t tag, uint8_t type, uint32_t length) {
     uint8_t head[HEAD];
-    for (size_t i = 0; i < HEAD; i++)
-        head[i] = (uint8_t)(words[i / 4] >> (24 - 8 * (i % 4)));
-    put(it, head, HEAD);
+    kmip_number_into(head, tag << 8 | type);
+    kmip_number_into(head + 4, length);
+    put(out, head, HEAD);
 }
 
 /* An item of four bytes: an integer or an enumeration. */
-static void put_number(writer *it, uint32_t tag, uint8_t type, uint32_t number) {
-    const uint8_t value[] = {(uint8_t)(number >> 24),
-                             (uint8_t)(number >> 16),
-                             (uint8_t)(number >> 8),
-                             (uint8_t)number,
-                             0,
-                             0,
-                             0,
-                             0};
-    put_head(it, tag, type, 4);
-    put(it, value, sizeof value);
+static void put_number(writer *out, uint32_t tag, uint8_t type, uint32_t number) {
+    uint8_t value[8] = {0};
+    kmip_number_into(value, number);
+    put_head(out, tag, type, 4);
+    put(out, value, sizeof value);
 }
 
-static void put_id(writer *it, uint64_t id) {
+static void put_id(writer *out, uint64_t id) {
     uint8_t value[8];
-    for (size_t i = 0; i < sizeof value; i++)
-        value[i] = (uint8_t)(id >> (56 - 8 * i));
-    put_head(it, ITEM_ID, BYTES, sizeof value);
-    put(it, value, sizeof value);
+    kmip_number_into(value, (uint32_t)(id >> 32));
+    kmip_number_into(value + 4, (uint32_t)id);
+    put_head(out, ITEM_ID, BYTES, sizeof value);
+    put(out, value, sizeof value);
 }
 
 /* Begins a structure, and says where its contents do. */
-static size_t put_structure(writer *it, uint32_t tag) {
-    put_head(it, tag, STRUCTURE, 0);
-    return it->length;
+static size_t put_structure(writer *out, uint32_t tag) {
+    put_head(out, tag, STRUCTURE, 0);
+    return out->length;
 }
 
-static void end_structure(writer *it, size_t from) {
-    size_t length = it->length - from;
-    for (size_t i = 0; !it->failed && i < 4; i++)
-        it->room.bytes[from - 4 + i] = (uint8_t)(length >> (24 - 8 * i));
+static void end_structure(writer *out, size_t from) {
+    if (!out->failed) kmip_number_into(out->room.bytes + from - 4, (uint32_t)(out->length - from));
 }
 
 /* The header and the batch item of a request that the library made. */
-static bool parts_of(const item *it, part *header, part *batch_item) {
+static bool parts_of(const item *one, part *header, part *batch_item) {
     part message;
-    return !read_part(it->request.bytes, it->request_len, &message) &&
+    return !read_part(one->request.bytes, one->request_len, &message) &&
            find_part(&message, REQUEST_HEADER, header) &&
            find_part(&message, BATCH_ITEM, batch_item);
 }
@@ -184,88 +171,88 @@ static part highest_version(const kmip_batch *batch) {
 }
 
 /* The header of the first request, with the version, the option and the count of the batch. */
-static void put_header(writer *it, const kmip_batch *batch, const part *first) {
+static void put_header(writer *out, const kmip_batch *batch, const part *first) {
     part version = highest_version(batch), own = {0};
-    size_t header = put_structure(it, REQUEST_HEADER);
+    size_t header = put_structure(out, REQUEST_HEADER);
     while (next_part(first, &own)) {
         if (own.tag == BATCH_COUNT) {
-            put_number(it, CONTINUATION, ENUMERATION, (uint32_t)batch->on_error);
-            put_number(it, BATCH_COUNT, INTEGER, (uint32_t)batch->count);
+            put_number(out, CONTINUATION, ENUMERATION, (uint32_t)batch->on_error);
+            put_number(out, BATCH_COUNT, INTEGER, (uint32_t)batch->count);
             continue;
         }
         const part *chosen = own.tag == VERSION ? &version : &own;
-        put(it, chosen->whole, chosen->whole_len);
+        put(out, chosen->whole, chosen->whole_len);
     }
-    end_structure(it, header);
+    end_structure(out, header);
 }
 
 /* A batch item of a request with its Unique Batch Item ID, which stands after its operation. */
-static void put_item(writer *it, const part *batch_item, uint64_t id) {
+static void put_item(writer *out, const part *batch_item, uint64_t id) {
     part own = {0};
-    size_t made = put_structure(it, BATCH_ITEM);
+    size_t made = put_structure(out, BATCH_ITEM);
     while (next_part(batch_item, &own)) {
-        put(it, own.whole, own.whole_len);
-        if (own.tag == OPERATION) put_id(it, id);
+        put(out, own.whole, own.whole_len);
+        if (own.tag == OPERATION) put_id(out, id);
     }
-    end_structure(it, made);
+    end_structure(out, made);
 }
 
 /* Writes one message of the requests; its length, or a negative number. */
 static int64_t write_message(const kmip_batch *batch, kmip_room *into) {
-    writer it = {*into, 0, false};
+    writer out = {*into, 0, false};
     part header, batch_item;
-    size_t message = put_structure(&it, REQUEST_MESSAGE);
-    for (size_t i = 0; i < batch->count && !it.failed; i++) {
-        it.failed = !parts_of(&batch->items[i], &header, &batch_item);
-        if (i == 0 && !it.failed) put_header(&it, batch, &header);
-        if (!it.failed) put_item(&it, &batch_item, batch->first_id + i);
+    size_t message = put_structure(&out, REQUEST_MESSAGE);
+    for (size_t i = 0; i < batch->count && !out.failed; i++) {
+        out.failed = !parts_of(&batch->items[i], &header, &batch_item);
+        if (i == 0 && !out.failed) put_header(&out, batch, &header);
+        if (!out.failed) put_item(&out, &batch_item, batch->first_id + i);
     }
-    end_structure(&it, message);
-    *into = it.room;
-    if (it.failed) return KMIP_LENGTH_MEMORY;
-    return it.length > UINT32_MAX ? KMIP_LENGTH_NO_FORM : (int64_t)it.length;
+    end_structure(&out, message);
+    *into = out.room;
+    if (out.failed) return KMIP_LENGTH_MEMORY;
+    return out.length > UINT32_MAX ? KMIP_LENGTH_NO_FORM : (int64_t)out.length;
 }
 
 /* The header of a response, which counts one batch item. */
-static void put_header_of_one(writer *it, const part *header) {
+static void put_header_of_one(writer *out, const part *header) {
     part own = {0};
-    size_t made = put_structure(it, RESPONSE_HEADER);
+    size_t made = put_structure(out, RESPONSE_HEADER);
     while (next_part(header, &own)) {
         if (own.tag == BATCH_COUNT)
-            put_number(it, BATCH_COUNT, INTEGER, 1);
+            put_number(out, BATCH_COUNT, INTEGER, 1);
         else
-            put(it, own.whole, own.whole_len);
+            put(out, own.whole, own.whole_len);
     }
-    end_structure(it, made);
+    end_structure(out, made);
 }
 
 /* A batch item of a response without its Unique Batch Item ID. */
-static void put_item_alone(writer *it, const part *batch_item) {
+static void put_item_alone(writer *out, const part *batch_item) {
     part own = {0};
-    size_t made = put_structure(it, BATCH_ITEM);
+    size_t made = put_structure(out, BATCH_ITEM);
     while (next_part(batch_item, &own))
-        if (own.tag != ITEM_ID) put(it, own.whole, own.whole_len);
-    end_structure(it, made);
+        if (own.tag != ITEM_ID) put(out, own.whole, own.whole_len);
+    end_structure(out, made);
 }
 
 /* Writes the response to a single call, the message with the batch item at this place and no other,
    and says how long it is; 0: memory ran out. */
 static size_t write_single(const kmip_batch *batch, size_t place, kmip_room *into) {
-    writer it = {*into, 0, false};
+    writer out = {*into, 0, false};
     part message, own = {0};
     if (read_part(batch->response.bytes, batch->response_len, &message)) return 0;
-    size_t single = put_structure(&it, message.tag);
+    size_t single = put_structure(&out, message.tag);
     while (next_part(&message, &own)) {
         if (is_structure(&own, RESPONSE_HEADER))
-            put_header_of_one(&it, &own);
+            put_header_of_one(&out, &own);
         else if (own.tag != BATCH_ITEM)
-            put(&it, own.whole, own.whole_len);
+            put(&out, own.whole, own.whole_len);
         else if (own.whole == batch->response.bytes + place)
-            put_item_alone(&it, &own);
+            put_item_alone(&out, &own);
     }
-    end_structure(&it, single);
-    *into = it.room;
-    return it.failed ? 0 : it.length;
+    end_structure(&out, single);
+    *into = out.room;
+    return out.failed ? 0 : out.length;
 }
 
 /* What is wrong with a message, down to the items of its header and of its batch items. */
@@ -296,7 +283,7 @@ static size_t place_of(const kmip_batch *batch, const part *batch_item) {
 static bool has_failed(const part *batch_item) {
     part status;
     return find_part(batch_item, RESULT_STATUS, &status) && status.type == ENUMERATION &&
-           status.length == 4 && number_at(status.contents) == FAILED;
+           status.length == 4 && kmip_number_at(status.contents) == FAILED;
 }
 
 /* Whether the response is a failure of the whole message, as where a server takes no batches: one
@@ -326,9 +313,9 @@ static int give(kmip_batch *batch, size_t call, const part *batch_item) {
 static int check_missing(kmip_batch *batch) {
     bool ends = false;
     for (size_t i = 0; i < batch->count; i++) {
-        const item *it = &batch->items[i];
-        ends = ends || (it->failed && batch->on_error != KMIP_ON_ERROR_CONTINUE);
-        if (it->place == 0 && !ends)
+        const item *one = &batch->items[i];
+        ends = ends || (one->failed && batch->on_error != KMIP_ON_ERROR_CONTINUE);
+        if (one->place == 0 && !ends)
             return kmip_fails_as(batch->client, KMIP_LOST, "InternalError",
                                  "a call of the batch has no item in the response");
     }
@@ -370,21 +357,21 @@ static bool copy_to(kmip_room *into, const uint8_t *bytes, size_t count) {
 }
 
 /* Has the answer to a call be the client's. */
-static int read_item(const kmip_batch *batch, const item *it) {
+static int read_item(const kmip_batch *batch, const item *one) {
     static const uint8_t none[1];
     kmip_client *client = batch->client;
-    const uint8_t *line = it->version ? none : it->line.bytes;
+    const uint8_t *line = one->version ? none : one->line.bytes;
     if (!copy_to(&client->call, line, strlen((const char *)line) + 1))
         return kmip_says_no_memory(client);
     client->response_len = 0;
-    if (it->place == 0)
+    if (one->place == 0)
         return kmip_says(client, KMIP_REFUSED, "NotDone",
                          "the server has not done this call of the batch");
-    client->response_len = write_single(batch, it->place, &client->response);
+    client->response_len = write_single(batch, one->place, &client->response);
     if (client->response_len == 0) return kmip_says_no_memory(client);
-    if (it->version) client->name = it->name;
-    client->version = it->version;
-    client->payload = it->payload;
+    if (one->version) client->name = one->name;
+    client->version = one->version;
+    client->payload = one->payload;
     int status = kmip_read_answer(client);
     client->name = client->version = client->payload = NULL;
     return status;
@@ -482,12 +469,12 @@ kmip_batch *kmip_batch_new(kmip_client *client, kmip_on_error on_error) {
     return batch;
 }
 
-static void free_item(item *it) {
-    kmip_copy_free(it->name);
-    kmip_copy_free(it->version);
-    kmip_copy_free(it->payload);
-    kmip_room_free(&it->line);
-    kmip_room_free(&it->request);
+static void free_item(item *one) {
+    kmip_copy_free(one->name);
+    kmip_copy_free(one->version);
+    kmip_copy_free(one->payload);
+    kmip_room_free(&one->line);
+    kmip_room_free(&one->request);
 }
 
 void kmip_batch_free(kmip_batch *batch) {

@@ -110,62 +110,62 @@ static char *copy_or_none(const char *text) {
 }
 
 /* Takes the oldest error out of the queue, without its texts where memory runs out. */
-static bool take_error(struct kmip_queued *it) {
+static bool take_error(struct kmip_queued *error) {
     const char *file = NULL, *function = NULL, *text = NULL;
     int flags = 0;
 #if OPENSSL_VERSION_NUMBER >= 0x30000000L
-    it->code = ERR_get_error_all(&file, &it->line, &function, &text, &flags);
+    error->code = ERR_get_error_all(&file, &error->line, &function, &text, &flags);
 #else
-    it->code = ERR_get_error_line_data(&file, &it->line, &text, &flags);
+    error->code = ERR_get_error_line_data(&file, &error->line, &text, &flags);
 #endif
-    if (it->code == 0) return false;
-    it->file = copy_or_none(file);
-    it->function = copy_or_none(function);
-    it->text = (flags & ERR_TXT_STRING) ? copy_or_none(text) : NULL;
+    if (error->code == 0) return false;
+    error->file = copy_or_none(file);
+    error->function = copy_or_none(function);
+    error->text = (flags & ERR_TXT_STRING) ? copy_or_none(text) : NULL;
     return true;
 }
 
-static void put_error(const struct kmip_queued *it) {
-    const char *file = it->file ? it->file : "";
+static void put_error(const struct kmip_queued *error) {
+    const char *file = error->file ? error->file : "";
 #if OPENSSL_VERSION_NUMBER >= 0x30000000L
     ERR_new();
-    ERR_set_debug(file, it->line, it->function ? it->function : "");
-    if (it->text)
-        ERR_set_error(ERR_GET_LIB(it->code), ERR_GET_REASON(it->code), "%s", it->text);
+    ERR_set_debug(file, error->line, error->function ? error->function : "");
+    if (error->text)
+        ERR_set_error(ERR_GET_LIB(error->code), ERR_GET_REASON(error->code), "%s", error->text);
     else
-        ERR_set_error(ERR_GET_LIB(it->code), ERR_GET_REASON(it->code), NULL);
+        ERR_set_error(ERR_GET_LIB(error->code), ERR_GET_REASON(error->code), NULL);
 #else
     /* The name of the file has to stay, and so it is left out. */
     (void)file;
-    ERR_put_error(ERR_GET_LIB(it->code), ERR_GET_FUNC(it->code), ERR_GET_REASON(it->code), "",
-                  it->line);
-    if (it->text) ERR_add_error_data(1, it->text);
+    ERR_put_error(ERR_GET_LIB(error->code), ERR_GET_FUNC(error->code), ERR_GET_REASON(error->code),
+                  "", error->line);
+    if (error->text) ERR_add_error_data(1, error->text);
 #endif
 }
 
-void kmip_queue_take(kmip_queue *it) {
-    *it = (kmip_queue){NULL, 0, 0};
+void kmip_queue_take(kmip_queue *queue) {
+    *queue = (kmip_queue){NULL, 0, 0};
     if (ERR_peek_error() == 0) return;
-    while (it->marks < MARKS && ERR_clear_last_mark() == 1)
-        it->marks++;
-    it->errors = calloc(QUEUE, sizeof *it->errors);
-    while (it->errors && it->count < QUEUE && take_error(&it->errors[it->count]))
-        it->count++;
+    while (queue->marks < MARKS && ERR_clear_last_mark() == 1)
+        queue->marks++;
+    queue->errors = calloc(QUEUE, sizeof *queue->errors);
+    while (queue->errors && queue->count < QUEUE && take_error(&queue->errors[queue->count]))
+        queue->count++;
     ERR_clear_error();
 }
 
 /* Where the caller had marks, they stand at the newest error again: in code that sets one and
    calls, that is where they were. */
-void kmip_queue_give_back(kmip_queue *it) {
+void kmip_queue_give_back(kmip_queue *queue) {
     ERR_clear_error();
-    for (size_t i = 0; i < it->count; i++) {
-        put_error(&it->errors[i]);
-        kmip_copy_free(it->errors[i].file);
-        kmip_copy_free(it->errors[i].function);
-        kmip_copy_free(it->errors[i].text);
+    for (size_t i = 0; i < queue->count; i++) {
+        put_error(&queue->errors[i]);
+        kmip_copy_free(queue->errors[i].file);
+        kmip_copy_free(queue->errors[i].function);
+        kmip_copy_free(queue->errors[i].text);
     }
-    for (; it->marks > 0 && it->count > 0; it->marks--)
+    for (; queue->marks > 0 && queue->count > 0; queue->marks--)
         (void)ERR_set_mark();
-    free(it->errors);
-    *it = (kmip_queue){NULL, 0, 0};
+    free(queue->errors);
+    *queue = (kmip_queue){NULL, 0, 0};
 }

@@ -21,12 +21,22 @@ typedef struct {
 } kmip_room;
 
 /* Makes room for so many bytes, and keeps those that are there; false where memory runs out. */
-HIDDEN bool kmip_room_has(kmip_room *it, size_t room);
-HIDDEN void kmip_room_free(kmip_room *it);
+HIDDEN bool kmip_room_has(kmip_room *into, size_t room);
+HIDDEN void kmip_room_free(kmip_room *into);
 
 /* A copy of a text, or a null pointer where memory runs out. */
 HIDDEN char *kmip_copy_of(const char *text);
 HIDDEN void kmip_copy_free(char *text);
+
+/* A number of four bytes, as TTLV has it (KMIP 1.0, 9.1.1): read, and written. */
+static inline uint32_t kmip_number_at(const uint8_t *at) {
+    return (uint32_t)at[0] << 24 | (uint32_t)at[1] << 16 | (uint32_t)at[2] << 8 | at[3];
+}
+
+static inline void kmip_number_into(uint8_t *at, uint32_t number) {
+    for (int i = 0; i < 4; i++)
+        at[i] = (uint8_t)(number >> (24 - 8 * i));
+}
 
 /* A TLS connection, of which each use has to end by a deadline. */
 typedef struct kmip_wire kmip_wire;
@@ -146,8 +156,8 @@ typedef struct {
     size_t count;
     int marks;
 } kmip_queue;
-HIDDEN void kmip_queue_take(kmip_queue *it);
-HIDDEN void kmip_queue_give_back(kmip_queue *it);
+HIDDEN void kmip_queue_take(kmip_queue *queue);
+HIDDEN void kmip_queue_give_back(kmip_queue *queue);
 
 /* The kind of the error that a line has, after a call with this status. */
 HIDDEN kmip_kind kmip_kind_of(const char *line, int status);

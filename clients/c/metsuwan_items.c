@@ -86,9 +86,9 @@ static const char *item_at(const char *line, const char *path) {
 }
 
 /* The value of a hex digit; -1: it is none. */
-static int hex_digit(char it) {
+static int hex_digit(char digit) {
     static const char digits[] = "0123456789ABCDEF0123456789abcdef";
-    const char *found = it ? strchr(digits, it) : NULL;
+    const char *found = digit ? strchr(digits, digit) : NULL;
     return found ? (int)(found - digits) % 16 : -1;
 }
 
@@ -104,15 +104,15 @@ static long code(const char *at) {
 }
 
 /* Writes a character as UTF-8, and says how many bytes that is. */
-static size_t put_character(long it, uint8_t *into) {
+static size_t put_character(long number, uint8_t *into) {
     static const long most[] = {0x7F, 0x7FF, 0xFFFF, 0x10FFFF};
     static const uint8_t first[] = {0, 0xC0, 0xE0, 0xF0};
     size_t more = 0;
-    while (it > most[more])
+    while (number > most[more])
         more++;
-    into[0] = (uint8_t)(first[more] | it >> (6 * more));
+    into[0] = (uint8_t)(first[more] | number >> (6 * more));
     for (size_t i = 1; i <= more; i++)
-        into[i] = (uint8_t)(0x80 | (it >> (6 * (more - i)) & 0x3F));
+        into[i] = (uint8_t)(0x80 | (number >> (6 * (more - i)) & 0x3F));
     return more + 1;
 }
 
@@ -125,18 +125,18 @@ static size_t put_escape(const char **at, uint8_t *into) {
         *into = (uint8_t)bytes[found - names];
         return 1;
     }
-    long it = (*at)[1] == 'u' ? code(*at + 2) : -1;
-    if (it < 0) return 0;
+    long number = (*at)[1] == 'u' ? code(*at + 2) : -1;
+    if (number < 0) return 0;
     *at += 6;
-    if (it >= 0xD800 && it < 0xDC00 && (*at)[0] == '\\' && (*at)[1] == 'u') {
+    if (number >= 0xD800 && number < 0xDC00 && (*at)[0] == '\\' && (*at)[1] == 'u') {
         long low = code(*at + 2);
         if (low >= 0xDC00 && low < 0xE000) {
-            it = 0x10000 + (it - 0xD800) * 0x400 + low - 0xDC00;
+            number = 0x10000 + (number - 0xD800) * 0x400 + low - 0xDC00;
             *at += 6;
         }
     }
-    if (it >= 0xD800 && it < 0xE000) return 0;
-    return put_character(it, into);
+    if (number >= 0xD800 && number < 0xE000) return 0;
+    return put_character(number, into);
 }
 
 /* Writes the string that begins here, without quotes and escapes; -1: it is none. No escape is

@@ -8,28 +8,19 @@
 #define AUTHENTICATION 0x42000C /* KMIP 1.0, 6.6 */
 #define ITEM_ID 0x420093        /* 6.4 */
 
-static uint32_t number_at(const uint8_t *at) {
-    return (uint32_t)at[0] << 24 | (uint32_t)at[1] << 16 | (uint32_t)at[2] << 8 | at[3];
-}
-
-static void put_number(uint8_t *at, size_t number) {
-    for (int i = 0; i < 4; i++)
-        at[i] = (uint8_t)(number >> (24 - 8 * i));
-}
-
 /* Takes an item out of the structure that begins there in a request, which was made here, in its own
    place; the length that the request has then. */
 static size_t without(uint32_t tag, size_t structure, uint8_t *request, size_t length) {
     size_t begin = structure + HEAD, at = begin, whole = 0;
-    size_t end = begin + number_at(request + structure + 4);
+    size_t end = begin + kmip_number_at(request + structure + 4);
     for (; at < end; at += whole) {
-        whole = HEAD + ((size_t)number_at(request + at + 4) + 7) / 8 * 8;
-        if (number_at(request + at) >> 8 == tag) break;
+        whole = HEAD + ((size_t)kmip_number_at(request + at + 4) + 7) / 8 * 8;
+        if (kmip_number_at(request + at) >> 8 == tag) break;
     }
     if (at >= end) return length;
     memmove(request + at, request + at + whole, length - at - whole);
-    put_number(request + structure + 4, end - begin - whole);
-    put_number(request + 4, length - HEAD - whole);
+    kmip_number_into(request + structure + 4, (uint32_t)(end - begin - whole));
+    kmip_number_into(request + 4, (uint32_t)(length - HEAD - whole));
     return length - whole;
 }
 
@@ -38,7 +29,7 @@ static size_t without(uint32_t tag, size_t structure, uint8_t *request, size_t l
 static size_t request_of_record(const kmip_client *client) {
     uint8_t *request = client->request.bytes;
     size_t length = without(AUTHENTICATION, HEAD, request, client->request_len);
-    size_t batch_item = 2 * HEAD + number_at(request + HEAD + 4);
+    size_t batch_item = 2 * HEAD + kmip_number_at(request + HEAD + 4);
     return client->item_id_len > 0 ? without(ITEM_ID, batch_item, request, length) : length;
 }
 

@@ -39,9 +39,9 @@ static bool is_certificate(const uint8_t *der, size_t count) {
 static const char no_certificate[] = "the certificate is none of X.509";
 
 /* The value of a digit of base64 (RFC 4648, 4); -1: it is none. */
-static int sextet(char it) {
+static int sextet(char made) {
     static const char digits[] = "ABCDEFGHIJKLMNOPQRSTUVWXYZabcdefghijklmnopqrstuvwxyz0123456789+/";
-    const char *found = it ? strchr(digits, it) : NULL;
+    const char *found = made ? strchr(digits, made) : NULL;
     return found ? (int)(found - digits) : -1;
 }
 
@@ -50,11 +50,11 @@ static int64_t decode(uint8_t *text, size_t count) {
     uint32_t number = 0;
     size_t digits = 0, padding = 0, done = 0;
     for (size_t i = 0; i < count; i++) {
-        char it = (char)text[i];
-        if (it == '\n' || it == '\r' || it == '\t' || it == '\f' || it == ' ') continue;
-        int value = it == '=' ? 0 : sextet(it);
-        if (value < 0 || (padding > 0 && it != '=')) return -1;
-        padding += it == '=';
+        char made = (char)text[i];
+        if (made == '\n' || made == '\r' || made == '\t' || made == '\f' || made == ' ') continue;
+        int value = made == '=' ? 0 : sextet(made);
+        if (value < 0 || (padding > 0 && made != '=')) return -1;
+        padding += made == '=';
         number = number << 6 | (uint32_t)value;
         if (++digits % 4 != 0) continue;
         text[done++] = (uint8_t)(number >> 16);
@@ -131,73 +131,74 @@ typedef struct {
     bool failed;
 } writer;
 
-static void put(writer *it, const char *text, size_t count) {
-    size_t wanted = it->length + count + 1;
-    if (!it->failed && wanted > it->room.room) it->failed = !kmip_room_has(&it->room, 2 * wanted);
-    if (!it->room.bytes || (!text && count > 0)) it->failed = true;
-    if (it->failed) return;
-    if (count > 0) memcpy(it->room.bytes + it->length, text, count);
-    it->length += count;
-    it->room.bytes[it->length] = 0;
+static void put(writer *out, const char *text, size_t count) {
+    size_t wanted = out->length + count + 1;
+    if (!out->failed && wanted > out->room.room)
+        out->failed = !kmip_room_has(&out->room, 2 * wanted);
+    if (!out->room.bytes || (!text && count > 0)) out->failed = true;
+    if (out->failed) return;
+    if (count > 0) memcpy(out->room.bytes + out->length, text, count);
+    out->length += count;
+    out->room.bytes[out->length] = 0;
 }
 
 /* Writes JSON, in which ' stands for each double quote. */
-static void put_json(writer *it, const char *json) {
+static void put_json(writer *out, const char *json) {
     for (; *json; json++)
-        put(it, *json == '\'' ? "\"" : json, 1);
+        put(out, *json == '\'' ? "\"" : json, 1);
 }
 
 /* Writes what stands between the quotes of a string of JSON. */
-static void put_string(writer *it, const char *text) {
+static void put_string(writer *out, const char *text) {
     while (*text) {
         char shown[8];
         text += kmip_write_character(text, shown);
-        put(it, shown, strlen(shown));
+        put(out, shown, strlen(shown));
     }
 }
 
-static void put_bytes(writer *it, const uint8_t *bytes, size_t count) {
+static void put_bytes(writer *out, const uint8_t *bytes, size_t count) {
     for (size_t i = 0; i < count; i++) {
         char digits[3];
         snprintf(digits, sizeof digits, "%02X", bytes[i]);
-        put(it, digits, 2);
+        put(out, digits, 2);
     }
 }
 
-static void put_usage(writer *it, int32_t bits) {
+static void put_usage(writer *out, int32_t bits) {
     char number[16];
     int count = snprintf(number, sizeof number, "%ld", (long)bits);
-    put_json(it, "{'tag':'Attribute','value':["
-                 "{'tag':'AttributeName','type':'TextString','value':'Cryptographic Usage Mask'},"
-                 "{'tag':'AttributeValue','type':'Integer','value':");
-    put(it, number, (size_t)count);
-    put_json(it, "}]}");
+    put_json(out, "{'tag':'Attribute','value':["
+                  "{'tag':'AttributeName','type':'TextString','value':'Cryptographic Usage Mask'},"
+                  "{'tag':'AttributeValue','type':'Integer','value':");
+    put(out, number, (size_t)count);
+    put_json(out, "}]}");
 }
 
-static void put_name(writer *it, const char *name) {
-    put_json(it, "{'tag':'Attribute','value':["
-                 "{'tag':'AttributeName','type':'TextString','value':'Name'},"
-                 "{'tag':'AttributeValue','value':["
-                 "{'tag':'NameValue','type':'TextString','value':'");
-    put_string(it, name);
-    put_json(it, "'},{'tag':'NameType','type':'Enumeration','value':'UninterpretedTextString'}"
-                 "]}]}");
+static void put_name(writer *out, const char *name) {
+    put_json(out, "{'tag':'Attribute','value':["
+                  "{'tag':'AttributeName','type':'TextString','value':'Name'},"
+                  "{'tag':'AttributeValue','value':["
+                  "{'tag':'NameValue','type':'TextString','value':'");
+    put_string(out, name);
+    put_json(out, "'},{'tag':'NameType','type':'Enumeration','value':'UninterpretedTextString'}"
+                  "]}]}");
 }
 
 /* The payload with this certificate in DER. */
-static void put_payload(writer *it, const uint8_t *der, size_t count, const char *name,
+static void put_payload(writer *out, const uint8_t *der, size_t count, const char *name,
                         int32_t uses) {
-    put_json(it, "{'tag':'RequestPayload','value':["
-                 "{'tag':'ObjectType','type':'Enumeration','value':'Certificate'},"
-                 "{'tag':'TemplateAttribute','value':[");
-    if (uses != 0) put_usage(it, uses);
-    if (uses != 0 && name) put_json(it, ",");
-    if (name) put_name(it, name);
-    put_json(it, "]},{'tag':'Certificate','value':["
-                 "{'tag':'CertificateType','type':'Enumeration','value':'X509'},"
-                 "{'tag':'CertificateValue','type':'ByteString','value':'");
-    put_bytes(it, der, count);
-    put_json(it, "'}]}]}");
+    put_json(out, "{'tag':'RequestPayload','value':["
+                  "{'tag':'ObjectType','type':'Enumeration','value':'Certificate'},"
+                  "{'tag':'TemplateAttribute','value':[");
+    if (uses != 0) put_usage(out, uses);
+    if (uses != 0 && name) put_json(out, ",");
+    if (name) put_name(out, name);
+    put_json(out, "]},{'tag':'Certificate','value':["
+                  "{'tag':'CertificateType','type':'Enumeration','value':'X509'},"
+                  "{'tag':'CertificateValue','type':'ByteString','value':'");
+    put_bytes(out, der, count);
+    put_json(out, "'}]}]}");
 }
 
 /* A copy of bytes as a text, with a byte 0 after them; a null pointer where memory runs out. */
@@ -210,16 +211,16 @@ static char *text_of(const uint8_t *bytes, size_t count) {
 }
 
 /* Writes the payload of a certificate that is no DER, and says what is wrong with it. */
-static const char *put_pem(writer *it, const uint8_t *pem, size_t count, const char *name,
+static const char *put_pem(writer *out, const uint8_t *pem, size_t count, const char *name,
                            int32_t uses) {
     char *text = text_of(pem, count), *der = text;
     size_t room = count + 1;
     if (!text) {
-        it->failed = true;
+        out->failed = true;
         return NULL;
     }
     const char *wrong = decode_pem(&der, &count);
-    if (!wrong) put_payload(it, (const uint8_t *)der, count, name, uses);
+    if (!wrong) put_payload(out, (const uint8_t *)der, count, name, uses);
     OPENSSL_cleanse(text, room); /* what is no certificate may be a key */
     free(text);
     return wrong;
@@ -228,44 +229,44 @@ static const char *put_pem(writer *it, const uint8_t *pem, size_t count, const c
 const char *kmip_write_certificate(kmip_room *into, const uint8_t *certificate, size_t length,
                                    const char *name, const char *usage) {
     int32_t uses = usage ? bits_of(usage) : 0;
-    writer it = {{NULL, 0}, 0, false};
+    writer out = {{NULL, 0}, 0, false};
     const char *wrong = NULL;
     if (usage && uses == 0) return "usage is not names of KMIP";
     if (name && !kmip_is_utf8(name)) return "name is not UTF-8";
     bool whole = is_whole(certificate, length);
     if (whole && !is_certificate(certificate, length)) return no_certificate;
     if (whole)
-        put_payload(&it, certificate, length, name, uses);
+        put_payload(&out, certificate, length, name, uses);
     else
-        wrong = put_pem(&it, certificate, length, name, uses);
-    if (it.failed) kmip_room_free(&it.room);
-    *into = it.room;
+        wrong = put_pem(&out, certificate, length, name, uses);
+    if (out.failed) kmip_room_free(&out.room);
+    *into = out.room;
     return wrong;
 }
 
 /* The payload with an object whose parts `put_parts` writes. */
-static void put_object(writer *it, const char *kind, const char *name, int32_t uses) {
-    put_json(it, "{'tag':'RequestPayload','value':["
-                 "{'tag':'ObjectType','type':'Enumeration','value':'");
-    put_json(it, kind);
-    put_json(it, "'},{'tag':'TemplateAttribute','value':[");
-    if (uses != 0) put_usage(it, uses);
-    if (uses != 0 && name) put_json(it, ",");
-    if (name) put_name(it, name);
-    put_json(it, "]},{'tag':'");
-    put_json(it, kind);
-    put_json(it, "','value':[");
+static void put_object(writer *out, const char *kind, const char *name, int32_t uses) {
+    put_json(out, "{'tag':'RequestPayload','value':["
+                  "{'tag':'ObjectType','type':'Enumeration','value':'");
+    put_json(out, kind);
+    put_json(out, "'},{'tag':'TemplateAttribute','value':[");
+    if (uses != 0) put_usage(out, uses);
+    if (uses != 0 && name) put_json(out, ",");
+    if (name) put_name(out, name);
+    put_json(out, "]},{'tag':'");
+    put_json(out, kind);
+    put_json(out, "','value':[");
 }
 
 /* Writes a key block with these bytes, but for what closes it. */
-static void put_block(writer *it, const char *format, const uint8_t *bytes, size_t count) {
-    put_json(it, "{'tag':'KeyBlock','value':["
-                 "{'tag':'KeyFormatType','type':'Enumeration','value':'");
-    put_json(it, format);
-    put_json(it, "'},{'tag':'KeyValue','value':["
-                 "{'tag':'KeyMaterial','type':'ByteString','value':'");
-    put_bytes(it, bytes, count);
-    put_json(it, "'}]}");
+static void put_block(writer *out, const char *format, const uint8_t *bytes, size_t count) {
+    put_json(out, "{'tag':'KeyBlock','value':["
+                  "{'tag':'KeyFormatType','type':'Enumeration','value':'");
+    put_json(out, format);
+    put_json(out, "'},{'tag':'KeyValue','value':["
+                  "{'tag':'KeyMaterial','type':'ByteString','value':'");
+    put_bytes(out, bytes, count);
+    put_json(out, "'}]}");
 }
 
 /* One block of PEM. */
@@ -275,22 +276,22 @@ typedef struct {
     long length;
 } block;
 
-static void block_free(block *it) {
-    OPENSSL_free(it->label);
-    OPENSSL_free(it->header);
-    if (it->der) OPENSSL_clear_free(it->der, (size_t)it->length);
-    *it = (block){NULL, NULL, NULL, 0};
+static void block_free(block *lines) {
+    OPENSSL_free(lines->label);
+    OPENSSL_free(lines->header);
+    if (lines->der) OPENSSL_clear_free(lines->der, (size_t)lines->length);
+    *lines = (block){NULL, NULL, NULL, 0};
 }
 
 /* The next block that has no parameters of a curve; false where there is none. */
-static bool block_read(BIO *from, block *it) {
+static bool block_read(BIO *from, block *lines) {
     static const char parameters[] = "PARAMETERS";
-    while (PEM_read_bio(from, &it->label, &it->header, &it->der, &it->length) == 1) {
-        size_t length = strlen(it->label), count = sizeof parameters - 1;
-        if (length < count || strcmp(it->label + length - count, parameters) != 0) return true;
-        block_free(it);
+    while (PEM_read_bio(from, &lines->label, &lines->header, &lines->der, &lines->length) == 1) {
+        size_t length = strlen(lines->label), count = sizeof parameters - 1;
+        if (length < count || strcmp(lines->label + length - count, parameters) != 0) return true;
+        block_free(lines);
     }
-    *it = (block){NULL, NULL, NULL, 0};
+    *lines = (block){NULL, NULL, NULL, 0};
     return false;
 }
 
@@ -312,17 +313,17 @@ static size_t format_of(const char *label) {
 }
 
 /* The key that a block has, read to its end, or a null pointer. */
-static EVP_PKEY *key_of(const block *it, size_t format) {
-    const unsigned char *at = it->der;
+static EVP_PKEY *key_of(const block *lines, size_t format) {
+    const unsigned char *at = lines->der;
     EVP_PKEY *key = NULL;
     switch (format) {
-    case 0: key = d2i_PublicKey(EVP_PKEY_RSA, NULL, &at, it->length); break;
-    case 1: key = d2i_PUBKEY(NULL, &at, it->length); break;
-    case 2: key = d2i_PrivateKey(EVP_PKEY_RSA, NULL, &at, it->length); break;
-    case 3: key = d2i_AutoPrivateKey(NULL, &at, it->length); break;
-    default: key = d2i_PrivateKey(EVP_PKEY_EC, NULL, &at, it->length); break;
+    case 0: key = d2i_PublicKey(EVP_PKEY_RSA, NULL, &at, lines->length); break;
+    case 1: key = d2i_PUBKEY(NULL, &at, lines->length); break;
+    case 2: key = d2i_PrivateKey(EVP_PKEY_RSA, NULL, &at, lines->length); break;
+    case 3: key = d2i_AutoPrivateKey(NULL, &at, lines->length); break;
+    default: key = d2i_PrivateKey(EVP_PKEY_EC, NULL, &at, lines->length); break;
     }
-    if (key && at != it->der + it->length) {
+    if (key && at != lines->der + lines->length) {
         EVP_PKEY_free(key);
         key = NULL;
     }
@@ -339,7 +340,7 @@ static const char *algorithm_of(const EVP_PKEY *key) {
 }
 
 /* Writes the payload of a key in PEM, or says what is wrong with it. */
-static const char *put_key(writer *it, const char *kind, const block *own, const char *name,
+static const char *put_key(writer *out, const char *kind, const block *own, const char *name,
                            int32_t uses) {
     char length[100];
     size_t format = format_of(own->label);
@@ -354,12 +355,12 @@ static const char *put_key(writer *it, const char *kind, const block *own, const
     EVP_PKEY_free(key);
     if (!key) return "the key is no DER of its kind";
     if (!algorithm) return "KMIP 1.2 has no name for the key's algorithm";
-    put_object(it, kind, name, uses);
-    put_block(it, formats[format].format, own->der, (size_t)own->length);
-    put_json(it, ",{'tag':'CryptographicAlgorithm','type':'Enumeration','value':'");
-    put_json(it, algorithm);
-    put_json(it, length);
-    put_json(it, "]}]}]}");
+    put_object(out, kind, name, uses);
+    put_block(out, formats[format].format, own->der, (size_t)own->length);
+    put_json(out, ",{'tag':'CryptographicAlgorithm','type':'Enumeration','value':'");
+    put_json(out, algorithm);
+    put_json(out, length);
+    put_json(out, "]}]}]}");
     return NULL;
 }
 
@@ -375,45 +376,45 @@ static const char *only_block(BIO *from, block *into) {
 const char *kmip_write_key(kmip_room *into, const char *kind, const void *pem, size_t length,
                            const char *name, const char *usage) {
     int32_t uses = usage ? bits_of(usage) : 0;
-    writer it = {{NULL, 0}, 0, false};
+    writer out = {{NULL, 0}, 0, false};
     block own = {NULL, NULL, NULL, 0};
     if (usage && uses == 0) return "usage is not names of KMIP";
     if (name && !kmip_is_utf8(name)) return "name is not UTF-8";
     if (length > INT_MAX) return "the key is no PEM";
     BIO *from = BIO_new_mem_buf(pem, (int)length);
     const char *wrong = from ? only_block(from, &own) : NULL;
-    it.failed = !from;
-    if (from && !wrong) wrong = put_key(&it, kind, &own, name, uses);
+    out.failed = !from;
+    if (from && !wrong) wrong = put_key(&out, kind, &own, name, uses);
     block_free(&own);
     BIO_free(from);
-    if (it.failed || wrong) kmip_room_free(&it.room);
-    *into = it.room;
+    if (out.failed || wrong) kmip_room_free(&out.room);
+    *into = out.room;
     return wrong;
 }
 
 const char *kmip_write_secret(kmip_room *into, const void *data, size_t length, const char *kind,
                               const char *name, const char *usage) {
     int32_t uses = usage ? bits_of(usage) : 0;
-    writer it = {{NULL, 0}, 0, false};
+    writer out = {{NULL, 0}, 0, false};
     if (usage && uses == 0) return "usage is not names of KMIP";
     if (name && !kmip_is_utf8(name)) return "name is not UTF-8";
     if (strcmp(kind, "Password") != 0 && strcmp(kind, "Seed") != 0)
         return "a secret is a Password or a Seed";
-    put_object(&it, "SecretData", name, uses);
-    put_json(&it, "{'tag':'SecretDataType','type':'Enumeration','value':'");
-    put_json(&it, kind);
-    put_json(&it, "'},");
-    put_block(&it, "Opaque", data, length);
-    put_json(&it, "]}]}]}");
-    if (it.failed) kmip_room_free(&it.room);
-    *into = it.room;
+    put_object(&out, "SecretData", name, uses);
+    put_json(&out, "{'tag':'SecretDataType','type':'Enumeration','value':'");
+    put_json(&out, kind);
+    put_json(&out, "'},");
+    put_block(&out, "Opaque", data, length);
+    put_json(&out, "]}]}]}");
+    if (out.failed) kmip_room_free(&out.room);
+    *into = out.room;
     return NULL;
 }
 
 /* Keys whose parts are told one by one. Of a failure the writer knows, also where a part is not
    there. */
 
-static void put_element(writer *it, uint8_t tag, const writer *contents) {
+static void put_element(writer *out, uint8_t tag, const writer *contents) {
     uint8_t head[6] = {tag};
     size_t count = 2, length = contents->length;
     head[1] = (uint8_t)length;
@@ -423,19 +424,19 @@ static void put_element(writer *it, uint8_t tag, const writer *contents) {
         for (size_t i = digits; i > 0; i--)
             head[count++] = (uint8_t)(length >> (8 * (i - 1)));
     }
-    if (contents->failed || length > 0xFFFFFF) it->failed = true;
-    if (it->failed) return;
-    put(it, (const char *)head, count);
-    put(it, (const char *)contents->room.bytes, length);
+    if (contents->failed || length > 0xFFFFFF) out->failed = true;
+    if (out->failed) return;
+    put(out, (const char *)head, count);
+    put(out, (const char *)contents->room.bytes, length);
 }
 
 /* Writes an element of bytes after `zeros` more of 0. */
-static void put_padded(writer *it, uint8_t tag, size_t zeros, const uint8_t *bytes, size_t count) {
-    writer own = {{NULL, 0}, 0, it->failed};
+static void put_padded(writer *out, uint8_t tag, size_t zeros, const uint8_t *bytes, size_t count) {
+    writer own = {{NULL, 0}, 0, out->failed};
     for (size_t i = 0; i < zeros; i++)
         put(&own, "", 1);
     put(&own, (const char *)bytes, count);
-    put_element(it, tag, &own);
+    put_element(out, tag, &own);
     kmip_room_free(&own.room);
 }
 
@@ -455,7 +456,7 @@ static const char *const rsa_parts[] = {
     "Modulus", "PublicExponent", "PrivateExponent", "P",
     "Q",       "PrimeExponentP", "PrimeExponentQ",  "CRTCoefficient"};
 
-static void put_rsa(writer *it, const char *line, const char *object, size_t parts) {
+static void put_rsa(writer *out, const char *line, const char *object, size_t parts) {
     writer own = {{NULL, 0}, 0, false};
     kmip_room room = {NULL, 0};
     const uint8_t *bytes = NULL;
@@ -467,7 +468,7 @@ static void put_rsa(writer *it, const char *line, const char *object, size_t par
         else
             put_padded(&own, 0x02, count == 0 || bytes[0] >= 0x80, bytes, (size_t)count);
     }
-    put_element(it, 0x30, &own);
+    put_element(out, 0x30, &own);
     kmip_room_free(&own.room);
     kmip_room_free(&room);
 }
@@ -502,12 +503,12 @@ static size_t curve_of(const char *line, const char *object) {
     return at;
 }
 
-static void put_curve(writer *it, size_t curve) {
-    put_padded(it, 0x06, 0, (const uint8_t *)curves[curve].identifier, curves[curve].length);
+static void put_curve(writer *out, size_t curve) {
+    put_padded(out, 0x06, 0, (const uint8_t *)curves[curve].identifier, curves[curve].length);
 }
 
 /* A public key in X.509. */
-static void put_point(writer *it, const char *line, size_t curve) {
+static void put_point(writer *out, const char *line, size_t curve) {
     static const uint8_t ec[] = {0x2A, 0x86, 0x48, 0xCE, 0x3D, 0x02, 0x01};
     writer algorithm = {{NULL, 0}, 0, false}, own = {{NULL, 0}, 0, false};
     kmip_room room = {NULL, 0};
@@ -520,14 +521,14 @@ static void put_point(writer *it, const char *line, size_t curve) {
         own.failed = true;
     else
         put_padded(&own, 0x03, 1, bytes, (size_t)count);
-    put_element(it, 0x30, &own);
+    put_element(out, 0x30, &own);
     kmip_room_free(&algorithm.room);
     kmip_room_free(&own.room);
     kmip_room_free(&room);
 }
 
 /* A private key in ECPrivateKey. */
-static void put_number(writer *it, const char *line, size_t curve) {
+static void put_ec_private_key(writer *out, const char *line, size_t curve) {
     writer own = {{NULL, 0}, 0, false}, parameters = {{NULL, 0}, 0, false};
     kmip_room room = {NULL, 0};
     const uint8_t *bytes = NULL;
@@ -539,7 +540,7 @@ static void put_number(writer *it, const char *line, size_t curve) {
         put_padded(&own, 0x04, curves[curve].bytes - (size_t)count, bytes, (size_t)count);
     put_curve(&parameters, curve);
     put_element(&own, 0xA0, &parameters);
-    put_element(it, 0x30, &own);
+    put_element(out, 0x30, &own);
     kmip_room_free(&own.room);
     kmip_room_free(&parameters.room);
     kmip_room_free(&room);
@@ -548,7 +549,7 @@ static void put_number(writer *it, const char *line, size_t curve) {
 const char *kmip_write_parts(kmip_room *into, size_t *length, const char *line,
                              const char *format) {
     static const char ec[] = "TransparentEC", public_key[] = "PublicKey";
-    writer it = {{NULL, 0}, 0, false};
+    writer out = {{NULL, 0}, 0, false};
     const char *label = NULL;
     bool is_ec = strncmp(format, ec, sizeof ec - 1) == 0;
     bool is_public = strstr(format, public_key) != NULL;
@@ -556,21 +557,21 @@ const char *kmip_write_parts(kmip_room *into, size_t *length, const char *line,
     size_t curve = is_ec ? curve_of(line, object) : CURVES;
     if (strcmp(format, "TransparentRSAPublicKey") == 0) {
         label = "RSA PUBLIC KEY";
-        put_rsa(&it, line, object, 2);
+        put_rsa(&out, line, object, 2);
     } else if (strcmp(format, "TransparentRSAPrivateKey") == 0) {
         label = "RSA PRIVATE KEY";
-        put_rsa(&it, line, object, sizeof rsa_parts / sizeof *rsa_parts);
+        put_rsa(&out, line, object, sizeof rsa_parts / sizeof *rsa_parts);
     } else if (curve < CURVES && is_public) {
         label = "PUBLIC KEY";
-        put_point(&it, line, curve);
+        put_point(&out, line, curve);
     } else if (curve < CURVES) {
         label = "EC PRIVATE KEY";
-        put_number(&it, line, curve);
+        put_ec_private_key(&out, line, curve);
     }
-    if (it.failed) label = NULL;
-    if (!label) kmip_room_free(&it.room);
-    *into = it.room;
-    *length = it.length;
+    if (out.failed) label = NULL;
+    if (!label) kmip_room_free(&out.room);
+    *into = out.room;
+    *length = out.length;
     return label;
 }
 

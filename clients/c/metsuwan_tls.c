@@ -212,7 +212,8 @@ int kmip_out_of_memory(kmip_client *client) {
 
 /* Tells the log what has happened, with the server in front. */
 PRINTS(4, 5)
-static void tell(kmip_client *client, kmip_event_kind what, int status, const char *format, ...) {
+static void log_event(kmip_client *client, kmip_event_kind what, int status, const char *format,
+                      ...) {
     char text[700];
     va_list given;
     if (!client->log) return;
@@ -233,12 +234,12 @@ void kmip_tell_call(kmip_client *client, const char *call) {
     double milliseconds = (kmip_now() - client->begun) * 1000;
     const char *kind = kmip_member(kmip_line(client), "error");
     if (client->response_len == 0 && kind)
-        tell(client, KMIP_EVENT_CALL, client->status, "%.60s: %.*s, %.1f ms", call,
-             (int)strcspn(kind + 1, "\""), kind + 1, milliseconds);
+        log_event(client, KMIP_EVENT_CALL, client->status, "%.60s: %.*s, %.1f ms", call,
+                  (int)strcspn(kind + 1, "\""), kind + 1, milliseconds);
     else
-        tell(client, KMIP_EVENT_CALL, client->status,
-             "%.60s: status %d, %zu bytes sent, %zu read, %.1f ms", call, client->status,
-             client->request_len, client->response_len, milliseconds);
+        log_event(client, KMIP_EVENT_CALL, client->status,
+                  "%.60s: status %d, %zu bytes sent, %zu read, %.1f ms", call, client->status,
+                  client->request_len, client->response_len, milliseconds);
 }
 
 /* Keeps that the connection failed, and whether its time was not over. */
@@ -434,7 +435,8 @@ static int ready(kmip_client *client) {
     client->wire = kmip_wire_open(&client->again, &status, reason, sizeof reason);
     if (!client->wire && status == KMIP_NO_MEMORY) return kmip_out_of_memory(client);
     if (!client->wire) return kmip_fails_as(client, KMIP_LOST, "ConnectError", reason);
-    tell(client, KMIP_EVENT_REOPENED, KMIP_LOST, "the connection was lost, and is opened again");
+    log_event(client, KMIP_EVENT_REOPENED, KMIP_LOST,
+              "the connection was lost, and is opened again");
     return KMIP_ANSWERED;
 }
 
@@ -445,7 +447,7 @@ static int exchange_again(kmip_client *client, size_t request_len, bool is_chang
     /* Where the connection is new, or what was sent may have been done, that is all. */
     bool harmless = is_changeless || !client->sent;
     if (!was_open || !client->torn || !harmless || !reconnects(client)) return status;
-    tell(client, KMIP_EVENT_REPEATED, KMIP_LOST, "%s: the call is made again", client->reason);
+    log_event(client, KMIP_EVENT_REPEATED, KMIP_LOST, "%s: the call is made again", client->reason);
     status = ready(client);
     return status == KMIP_ANSWERED ? exchange(client, request_len) : status;
 }

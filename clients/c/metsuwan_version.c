@@ -1,7 +1,7 @@
 /* Which library this is. It is compiled into libmetsuwan, beside what is proved. */
 #include "metsuwan.h"
 
-/* The note that tools/unproved_build.py leaves in what it compiles. */
+/* The note that tools/build.py --unproved leaves in what it compiles. */
 extern const char kmip_not_proved[] __attribute__((weak, visibility("hidden")));
 
 /* What `make library` is told of what it is given. */

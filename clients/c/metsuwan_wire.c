@@ -118,11 +118,11 @@ static bool is_late(const kmip_wire *wire) {
 
 /* Waits until the socket can be read or written; not longer than until then, unless that is 0. */
 static bool wait_for(kmip_wire *wire, short events, double until) {
-    struct pollfd it = {.fd = wire->socket, .events = events};
+    struct pollfd wanted = {.fd = wire->socket, .events = events};
     for (;;) {
         double left = until > 0 ? until - kmip_now() : 3600;
         if (left <= 0) return runs_late(wire);
-        int ready = poll(&it, 1, left < 3600 ? (int)(1000 * left) + 1 : 3600000);
+        int ready = poll(&wanted, 1, left < 3600 ? (int)(1000 * left) + 1 : 3600000);
         if (ready > 0) return true;
         if (ready < 0 && errno != EINTR) return fails_by_errno(wire, "", errno);
     }
@@ -130,8 +130,8 @@ static bool wait_for(kmip_wire *wire, short events, double until) {
 
 /* Whether the socket has bytes to read, or its end. */
 static bool is_readable(const kmip_wire *wire) {
-    struct pollfd it = {.fd = wire->socket, .events = POLLIN};
-    return poll(&it, 1, 0) > 0;
+    struct pollfd wanted = {.fd = wire->socket, .events = POLLIN};
+    return poll(&wanted, 1, 0) > 0;
 }
 
 /* How OpenSSL reads and writes the socket: with no SIGPIPE, and so that a cause is known. */
@@ -201,11 +201,11 @@ typedef struct {
 } passphrase;
 
 static int give_passphrase(char *into, int room, int writes, void *given) {
-    passphrase *it = given;
-    it->asked = true;
-    size_t count = it->text ? strlen(it->text) : 0;
-    if (!it->text || writes || count > (size_t)room) return -1;
-    memcpy(into, it->text, count);
+    passphrase *phrase = given;
+    phrase->asked = true;
+    size_t count = phrase->text ? strlen(phrase->text) : 0;
+    if (!phrase->text || writes || count > (size_t)room) return -1;
+    memcpy(into, phrase->text, count);
     return (int)count;
 }
 
@@ -237,18 +237,18 @@ static bool lacks(const char *path, const char *label) {
 }
 
 static bool use_key(kmip_wire *wire, const kmip_settings *settings) {
-    passphrase it = {.text = settings->passphrase};
+    passphrase phrase = {.text = settings->passphrase};
     SSL_CTX_set_default_passwd_cb(wire->context, give_passphrase);
-    SSL_CTX_set_default_passwd_cb_userdata(wire->context, &it);
+    SSL_CTX_set_default_passwd_cb_userdata(wire->context, &phrase);
     int used = SSL_CTX_use_PrivateKey_file(wire->context, settings->key, SSL_FILETYPE_PEM);
     SSL_CTX_set_default_passwd_cb(wire->context, give_none);
     SSL_CTX_set_default_passwd_cb_userdata(wire->context, NULL);
     if (used == 1) return true;
     if (lacks(settings->key, "PRIVATE KEY-----"))
         return fails(wire, "key %.150s: there is no private key in PEM", settings->key);
-    if (!it.asked) return fails_by_file(wire, "key", settings->key);
+    if (!phrase.asked) return fails_by_file(wire, "key", settings->key);
     return fails(wire, "key %.150s: it is encrypted, and %s", settings->key,
-                 it.text ? "this is not its passphrase" : "no passphrase is given");
+                 phrase.text ? "this is not its passphrase" : "no passphrase is given");
 }
 
 /* The certificate, its key and the authority, out of their files. */
@@ -305,87 +305,87 @@ static int find(const char *host, const char *port, int flags, struct addrinfo *
 }
 
 /* Makes the lock, and the condition, which is waited for by the clock of deadlines. */
-static bool search_init(search *it) {
+static bool search_init(search *found) {
     pthread_condattr_t clock;
     if (pthread_condattr_init(&clock) != 0) return false;
     bool made = pthread_condattr_setclock(&clock, CLOCK_MONOTONIC) == 0 &&
-                pthread_mutex_init(&it->lock, NULL) == 0;
-    if (made && pthread_cond_init(&it->changed, &clock) != 0) {
-        (void)pthread_mutex_destroy(&it->lock);
+                pthread_mutex_init(&found->lock, NULL) == 0;
+    if (made && pthread_cond_init(&found->changed, &clock) != 0) {
+        (void)pthread_mutex_destroy(&found->lock);
         made = false;
     }
     (void)pthread_condattr_destroy(&clock);
     return made;
 }
 
-static void search_free(search *it) {
-    if (it->addresses) freeaddrinfo(it->addresses);
-    (void)pthread_cond_destroy(&it->changed);
-    (void)pthread_mutex_destroy(&it->lock);
-    kmip_copy_free(it->host);
-    kmip_copy_free(it->port);
-    free(it);
+static void search_free(search *found) {
+    if (found->addresses) freeaddrinfo(found->addresses);
+    (void)pthread_cond_destroy(&found->changed);
+    (void)pthread_mutex_destroy(&found->lock);
+    kmip_copy_free(found->host);
+    kmip_copy_free(found->port);
+    free(found);
 }
 
 /* A null pointer where there is no memory. */
 static search *search_new(const char *host, const char *port) {
-    search *it = calloc(1, sizeof *it);
-    if (!it || !search_init(it)) {
-        free(it);
+    search *found = calloc(1, sizeof *found);
+    if (!found || !search_init(found)) {
+        free(found);
         return NULL;
     }
-    it->host = kmip_copy_of(host);
-    it->port = kmip_copy_of(port);
-    if (it->host && it->port) return it;
-    search_free(it);
+    found->host = kmip_copy_of(host);
+    found->port = kmip_copy_of(port);
+    if (found->host && found->port) return found;
+    search_free(found);
     return NULL;
 }
 
 static void *search_run(void *given) {
-    search *it = given;
+    search *found = given;
     struct addrinfo *addresses = NULL;
-    int status = find(it->host, it->port, 0, &addresses);
+    int status = find(found->host, found->port, 0, &addresses);
     int error = errno;
-    (void)pthread_mutex_lock(&it->lock); /* it is made, and not this thread's */
-    it->status = status;
-    it->error = error;
-    it->addresses = addresses;
-    it->done = true;
-    bool alone = it->given_up;
-    (void)pthread_cond_signal(&it->changed);
-    (void)pthread_mutex_unlock(&it->lock);
-    if (alone) search_free(it);
+    (void)pthread_mutex_lock(&found->lock); /* it is made, and not this thread's */
+    found->status = status;
+    found->error = error;
+    found->addresses = addresses;
+    found->done = true;
+    bool alone = found->given_up;
+    (void)pthread_cond_signal(&found->changed);
+    (void)pthread_mutex_unlock(&found->lock);
+    if (alone) search_free(found);
     return NULL;
 }
 
 /* Starts the thread, in which no handler of a signal is to run. */
-static bool search_start(search *it) {
+static bool search_start(search *found) {
     pthread_t thread;
     sigset_t all, before;
     if (sigfillset(&all) != 0 || pthread_sigmask(SIG_SETMASK, &all, &before) != 0) return false;
-    bool started = pthread_create(&thread, NULL, search_run, it) == 0;
+    bool started = pthread_create(&thread, NULL, search_run, found) == 0;
     (void)pthread_sigmask(SIG_SETMASK, &before, NULL);
     if (started) (void)pthread_detach(thread);
     return started;
 }
 
 /* Waits for the search until then, or without an end where that is 0, and leaves it. */
-static int search_end(search *it, double until, struct addrinfo **addresses) {
+static int search_end(search *found, double until, struct addrinfo **addresses) {
     struct timespec end = {.tv_sec = (time_t)until};
     end.tv_nsec = (long)((until - (double)end.tv_sec) * 1e9);
     int waited = 0;
-    (void)pthread_mutex_lock(&it->lock);
-    while (!it->done && waited == 0)
-        waited = until > 0 ? pthread_cond_timedwait(&it->changed, &it->lock, &end)
-                           : pthread_cond_wait(&it->changed, &it->lock);
-    bool done = it->done;
-    int status = done ? it->status : EAI_AGAIN;
-    *addresses = it->addresses;
-    it->addresses = NULL;
-    it->given_up = true;
-    int error = it->error;
-    (void)pthread_mutex_unlock(&it->lock);
-    if (done) search_free(it);
+    (void)pthread_mutex_lock(&found->lock);
+    while (!found->done && waited == 0)
+        waited = until > 0 ? pthread_cond_timedwait(&found->changed, &found->lock, &end)
+                           : pthread_cond_wait(&found->changed, &found->lock);
+    bool done = found->done;
+    int status = done ? found->status : EAI_AGAIN;
+    *addresses = found->addresses;
+    found->addresses = NULL;
+    found->given_up = true;
+    int error = found->error;
+    (void)pthread_mutex_unlock(&found->lock);
+    if (done) search_free(found);
     errno = error;
     return status;
 }
@@ -395,13 +395,13 @@ static struct addrinfo *addresses_of(kmip_wire *wire, const char *host, const ch
     struct addrinfo *addresses = NULL;
     int status = find(host, port, AI_NUMERICHOST, &addresses);
     if (status == EAI_NONAME) {
-        search *it = search_new(host, port);
-        if (!it || !search_start(it)) {
-            if (it) search_free(it);
+        search *found = search_new(host, port);
+        if (!found || !search_start(found)) {
+            if (found) search_free(found);
             fails(wire, "connect: no memory or no thread to find the host");
             return NULL;
         }
-        status = search_end(it, wire->end, &addresses);
+        status = search_end(found, wire->end, &addresses);
     }
     if (status == 0) return addresses;
     if (is_late(wire))

@@ -82,22 +82,22 @@ static size_t plain_count(const char *call, const char *const *words) {
     return own < count ? own : count;
 }
 
-bool kmip_room_has(kmip_room *it, size_t room) {
-    if (it->room >= room) return true;
+bool kmip_room_has(kmip_room *into, size_t room) {
+    if (into->room >= room) return true;
     uint8_t *bytes = malloc(room);
     if (!bytes) return false;
-    if (it->bytes) memcpy(bytes, it->bytes, it->room);
-    kmip_room_free(it);
-    it->bytes = bytes;
-    it->room = room;
+    if (into->bytes) memcpy(bytes, into->bytes, into->room);
+    kmip_room_free(into);
+    into->bytes = bytes;
+    into->room = room;
     return true;
 }
 
-void kmip_room_free(kmip_room *it) {
-    if (it->bytes) OPENSSL_cleanse(it->bytes, it->room);
-    free(it->bytes);
-    it->bytes = NULL;
-    it->room = 0;
+void kmip_room_free(kmip_room *into) {
+    if (into->bytes) OPENSSL_cleanse(into->bytes, into->room);
+    free(into->bytes);
+    into->bytes = NULL;
+    into->room = 0;
 }
 
 char *kmip_copy_of(const char *text) {

@@ -29,7 +29,7 @@ static void name_of(char into[300], const char *name, const char *more) {
 }
 
 /* Writes the identifier of the new key, and returns the status. */
-static int tell(const char *new) {
+static int print_outcome(const char *new) {
     if (puts(new) >= 0 && fflush(stdout) == 0) return 0;
     fputs("{\"error\":\"NotWritten\",\"text\":\"locate finds the new private key by its name\"}\n",
           stderr);
@@ -55,7 +55,7 @@ static int rotate(const char *old, const char *name) {
     need(kmip_call(client, "rename", new, name, NULL));
     need(kmip_call(client, "revoke", old, NULL));
     need(kmip_call(client, "destroy", old, NULL));
-    return tell(new);
+    return print_outcome(new);
 }
 
 int main(int argc, char **argv) {

@@ -44,25 +44,25 @@ static bool make_condition(void) {
 /* In the child no thread has a connection or waits for one, whatever threads the parent has. */
 static void in_child(void) {
     atomic_fetch_add(&forks, 1);
-    for (provider *it = all; it; it = it->next)
-        it->in_use = 0;
+    for (provider *prov = all; prov; prov = prov->next)
+        prov->in_use = 0;
     prepared = make_condition();
     unlock_all();
 }
 
 /* Ends a connection of this process. One of the parent's is given up without a byte on it. */
-static void disconnect(connection *it) {
-    if (it->process == atomic_load(&forks))
-        kmip_close(it->client);
+static void disconnect(connection *link) {
+    if (link->process == atomic_load(&forks))
+        kmip_close(link->client);
     else
-        kmip_abandon(it->client);
-    it->client = NULL;
+        kmip_abandon(link->client);
+    link->client = NULL;
 }
 
-static void end_idle(provider *it) {
-    while (it->idle) {
-        connection *first = it->idle;
-        it->idle = first->next;
+static void end_idle(provider *prov) {
+    while (prov->idle) {
+        connection *first = prov->idle;
+        prov->idle = first->next;
         disconnect(first);
         OPENSSL_free(first);
     }
@@ -71,8 +71,8 @@ static void end_idle(provider *it) {
 /* Before OpenSSL itself is taken down, after which no TLS can be ended. */
 static void at_exit(void) {
     lock_all();
-    for (provider *it = all; it; it = it->next)
-        end_idle(it);
+    for (provider *prov = all; prov; prov = prov->next)
+        end_idle(prov);
     unlock_all();
 }
 
@@ -81,32 +81,32 @@ static void prepare(void) {
                OPENSSL_atexit(at_exit);
 }
 
-bool connections_start(provider *it) {
+bool connections_start(provider *prov) {
     if (pthread_once(&once, prepare) || !prepared)
-        return RAISE(it, REASON_MEMORY, "no handlers of forks and of the end");
+        return RAISE(prov, REASON_MEMORY, "no handlers of forks and of the end");
     lock_all();
-    it->next = all;
-    all = it;
-    it->is_listed = true;
+    prov->next = all;
+    all = prov;
+    prov->is_listed = true;
     unlock_all();
     return true;
 }
 
-void connections_end(provider *it) {
-    if (!it->is_listed) return;
+void connections_end(provider *prov) {
+    if (!prov->is_listed) return;
     lock_all();
-    end_idle(it);
+    end_idle(prov);
     provider **at = &all;
-    while (*at && *at != it)
+    while (*at && *at != prov)
         at = &(*at)->next;
-    if (*at) *at = it->next;
+    if (*at) *at = prov->next;
     unlock_all();
 }
 
-static struct timespec deadline_of(const provider *it) {
+static struct timespec deadline_of(const provider *prov) {
     struct timespec at = {0};
     (void)clock_gettime(CLOCK_MONOTONIC, &at);
-    double seconds = it->settings.seconds;
+    double seconds = prov->settings.seconds;
     at.tv_sec += (time_t)seconds;
     at.tv_nsec += (long)((seconds - (double)(time_t)seconds) * 1e9);
     if (at.tv_nsec >= 1000000000) {
@@ -117,38 +117,38 @@ static struct timespec deadline_of(const provider *it) {
 }
 
 /* Waits, with the lock, until a connection may be taken; false where the time is over. */
-static bool wait_for_one(const provider *it) {
-    struct timespec until = deadline_of(it);
+static bool wait_for_one(const provider *prov) {
+    struct timespec until = deadline_of(prov);
     int status = 0;
-    while (it->in_use >= it->settings.connections && !status)
-        status = it->settings.seconds > 0 ? pthread_cond_timedwait(&given_back, &lock, &until)
-                                          : pthread_cond_wait(&given_back, &lock);
-    return it->in_use < it->settings.connections;
+    while (prov->in_use >= prov->settings.connections && !status)
+        status = prov->settings.seconds > 0 ? pthread_cond_timedwait(&given_back, &lock, &until)
+                                            : pthread_cond_wait(&given_back, &lock);
+    return prov->in_use < prov->settings.connections;
 }
 
-connection *connection_take(provider *it) {
+connection *connection_take(provider *prov) {
     lock_all();
-    bool free = wait_for_one(it);
-    connection *taken = free ? it->idle : NULL;
-    if (taken) it->idle = taken->next;
+    bool free = wait_for_one(prov);
+    connection *taken = free ? prov->idle : NULL;
+    if (taken) prov->idle = taken->next;
     if (free && !taken) taken = OPENSSL_zalloc(sizeof *taken);
-    if (taken) it->in_use++;
+    if (taken) prov->in_use++;
     unlock_all();
     if (taken)
-        taken->provider = it;
+        taken->provider = prov;
     else if (free)
-        RAISE(it, REASON_MEMORY, "a connection");
+        RAISE(prov, REASON_MEMORY, "a connection");
     else
-        RAISE(it, REASON_CONNECTION, "other threads had all %u connections for %g s",
-              it->settings.connections, it->settings.seconds);
+        RAISE(prov, REASON_CONNECTION, "other threads had all %u connections for %g s",
+              prov->settings.connections, prov->settings.seconds);
     return taken;
 }
 
-void connection_give_back(connection *it) {
-    provider *of = it->provider;
+void connection_give_back(connection *link) {
+    provider *of = link->provider;
     lock_all();
-    it->next = of->idle;
-    of->idle = it;
+    link->next = of->idle;
+    of->idle = link;
     of->in_use--;
     (void)pthread_cond_signal(&given_back);
     unlock_all();
@@ -162,8 +162,8 @@ static const char *missing(const settings *given) {
                                  : NULL;
 }
 
-static bool connect_it(connection *it) {
-    const provider *of = it->provider;
+static bool connect_it(connection *link) {
+    const provider *of = link->provider;
     const settings *given = &of->settings;
     if (missing(given))
         return RAISE(of, REASON_SETTINGS,
@@ -181,35 +181,35 @@ static bool connect_it(connection *it) {
     how.password = given->password;
     how.seconds = given->seconds;
     how.library = of->own;
-    it->client = kmip_open(&how, error, sizeof error);
-    it->process = atomic_load(&forks);
-    return it->client ||
+    link->client = kmip_open(&how, error, sizeof error);
+    link->process = atomic_load(&forks);
+    return link->client ||
            RAISE(of, REASON_CONNECTION, "%s port %s: %s", given->host, given->port, error);
 }
 
 /* Makes the call, on a connection that is opened for it where none is: the client where that was
    answered. `again`: nothing of it was sent on a connection that had been open before. */
-static kmip_client *call_once(connection *it, const char *call, const char *const *words,
+static kmip_client *call_once(connection *link, const char *call, const char *const *words,
                               bool *again) {
-    const provider *of = it->provider;
-    bool old = it->client != NULL;
+    const provider *of = link->provider;
+    bool old = link->client != NULL;
     *again = false;
-    if (!old && !connect_it(it)) return NULL;
-    int status = kmip_call_words(it->client, call, words);
-    if (status == KMIP_ANSWERED) return it->client;
-    *again = status == KMIP_LOST && old && !kmip_was_sent(it->client);
+    if (!old && !connect_it(link)) return NULL;
+    int status = kmip_call_words(link->client, call, words);
+    if (status == KMIP_ANSWERED) return link->client;
+    *again = status == KMIP_LOST && old && !kmip_was_sent(link->client);
     if (status == KMIP_NO_MEMORY)
         RAISE(of, REASON_MEMORY, "%s", call);
     else if (!*again)
         RAISE(of, status == KMIP_LOST ? REASON_CONNECTION : REASON_REFUSED, "%s: %s", call,
-              kmip_line(it->client));
-    if (status == KMIP_LOST || status == KMIP_NO_MEMORY) disconnect(it);
+              kmip_line(link->client));
+    if (status == KMIP_LOST || status == KMIP_NO_MEMORY) disconnect(link);
     return NULL;
 }
 
-kmip_client *connection_call(connection *it, const char *call, const char *const *words) {
-    if (it->client && it->process != atomic_load(&forks)) disconnect(it);
+kmip_client *connection_call(connection *link, const char *call, const char *const *words) {
+    if (link->client && link->process != atomic_load(&forks)) disconnect(link);
     bool again;
-    kmip_client *client = call_once(it, call, words, &again);
-    return client || !again ? client : call_once(it, call, words, &again);
+    kmip_client *client = call_once(link, call, words, &again);
+    return client || !again ? client : call_once(link, call, words, &again);
 }

@@ -24,19 +24,19 @@ static bool starts_with(const char *line, const char *start) {
     return strncmp(line, start, strlen(start)) == 0;
 }
 
-static bool read_line(const provider *it, OSSL_CORE_BIO *in, char line[LINE]) {
-    return it->gets(in, line, LINE) > 0;
+static bool read_line(const provider *prov, OSSL_CORE_BIO *in, char line[LINE]) {
+    return prov->gets(in, line, LINE) > 0;
 }
 
 /* Reads the first PEM block of a file to its end and no further, as OpenSSL's own decoders do, so
    that a file with several is read on. The lines within it are written to `into` where it is one
    of ours; where it is not, that is empty. */
-static void read_block(const provider *it, OSSL_CORE_BIO *in, char into[MOST]) {
+static void read_block(const provider *prov, OSSL_CORE_BIO *in, char into[MOST]) {
     char line[LINE];
     size_t count = 0;
     bool ours = false;
     *into = 0;
-    while (read_line(it, in, line) && !starts_with(line, ends)) {
+    while (read_line(prov, in, line) && !starts_with(line, ends)) {
         size_t length = strlen(line);
         if (starts_with(line, begins))
             ours = true;
@@ -69,18 +69,18 @@ static int wanted(int selection) {
 /* What is another file is left to other decoders: that is success with nothing handed over. */
 static int decode(void *given, OSSL_CORE_BIO *in, int selection, OSSL_CALLBACK *take, void *taker,
                   OSSL_PASSPHRASE_CALLBACK *ask, void *asked) {
-    provider *it = given;
+    provider *prov = given;
     char text[MOST], into[MOST];
     uri from;
     object what;
     (void)ask;
     (void)asked;
-    read_block(it, in, text);
+    read_block(prov, in, text);
     if (!*text) return 1;
     if (!read_base64(text, into))
-        return RAISE(it, REASON_URI, "the PEM file has no base64 of a URI");
-    if (!uri_read(it, into, &from)) return 0;
-    bool done = find(it, &from, wanted(selection), &what);
+        return RAISE(prov, REASON_URI, "the PEM file has no base64 of a URI");
+    if (!uri_read(prov, into, &from)) return 0;
+    bool done = find(prov, &from, wanted(selection), &what);
     uri_free(&from);
     if (!done) return 0;
     int taken = object_hand_over(&what, take, taker);

@@ -23,9 +23,9 @@ typedef struct {
     char *linked; /* the identifier of the public key that a private key is linked to, or null */
 } about;
 
-static char *copy(const provider *it, const char *text) {
+static char *copy(const provider *prov, const char *text) {
     char *made = OPENSSL_strdup(text);
-    if (!made) RAISE(it, REASON_MEMORY, "a text");
+    if (!made) RAISE(prov, REASON_MEMORY, "a text");
     return made;
 }
 
@@ -57,7 +57,7 @@ static bool ask_about(connection *by, const char *id, about *into) {
 
 /* How many objects have this type and name, of which 2 stands for more, and the first one's
    identifier; -1 with an error raised. */
-static int locate(const provider *it, connection *by, const char *name, const char *type,
+static int locate(const provider *prov, connection *by, const char *name, const char *type,
                   char **id) {
     int count = -1;
     size_t room = strlen(name) + sizeof "name=";
@@ -65,12 +65,12 @@ static int locate(const provider *it, connection *by, const char *name, const ch
     *id = NULL;
     if (!by_name || BIO_snprintf(by_name, room, "name=%s", name) < 0 ||
         BIO_snprintf(by_type, sizeof by_type, "type=%s", type) < 0) {
-        RAISE(it, REASON_MEMORY, "a name");
+        RAISE(prov, REASON_MEMORY, "a name");
     } else {
         const char *words[] = {by_name, by_type, NULL};
         kmip_client *client = connection_call(by, "locate", words);
         const char *first = client ? kmip_text(client, "unique_identifiers.0", NULL) : NULL;
-        if (first) *id = copy(it, first);
+        if (first) *id = copy(prov, first);
         if (client && (!first || *id))
             count = !first ? 0 : kmip_text(client, "unique_identifiers.1", NULL) ? 2 : 1;
     }
@@ -80,20 +80,20 @@ static int locate(const provider *it, connection *by, const char *name, const ch
 
 /* The identifier of the one object of this type and name; null: none, or an error was raised, and
    then `good` is false. */
-static char *locate_one(const provider *it, connection *by, const char *name, const char *type,
+static char *locate_one(const provider *prov, connection *by, const char *name, const char *type,
                         bool *good) {
     char *id;
-    int count = locate(it, by, name, type, &id);
+    int count = locate(prov, by, name, type, &id);
     *good = count == 0 || count == 1;
     if (count == 2)
-        RAISE(it, REASON_NOT_FOUND, "more than one %s has the name %s: tell its id", type, name);
+        RAISE(prov, REASON_NOT_FOUND, "more than one %s has the name %s: tell its id", type, name);
     if (*good) return id;
     OPENSSL_free(id);
     return NULL;
 }
 
 /* The identifier of the object with this name, of the first type that has one. */
-static char *locate_wanted(const provider *it, connection *by, const char *name, int wanted,
+static char *locate_wanted(const provider *prov, connection *by, const char *name, int wanted,
                            bool *good) {
     const struct {
         int wanted;
@@ -105,7 +105,7 @@ static char *locate_wanted(const provider *it, connection *by, const char *name,
     char *id = NULL;
     *good = true;
     for (size_t i = 0; *good && !id && i < sizeof order / sizeof *order; i++)
-        if (wanted & order[i].wanted) id = locate_one(it, by, name, order[i].type, good);
+        if (wanted & order[i].wanted) id = locate_one(prov, by, name, order[i].type, good);
     return id;
 }
 
@@ -118,24 +118,24 @@ static const char *words_for(int wanted) {
 }
 
 /* The identifier of the object that a URI means. */
-static char *object_id(const provider *it, connection *by, const uri *from, int wanted) {
-    if (from->id) return copy(it, from->id);
+static char *object_id(const provider *prov, connection *by, const uri *from, int wanted) {
+    if (from->id) return copy(prov, from->id);
     const char *name = from->name ? from->name : from->any;
     bool good;
-    char *id = locate_wanted(it, by, name, wanted, &good);
+    char *id = locate_wanted(prov, by, name, wanted, &good);
     if (id || !good) return id;
-    if (from->any) return copy(it, from->any);
-    RAISE(it, REASON_NOT_FOUND, "no %s has the name %s", words_for(wanted), name);
+    if (from->any) return copy(prov, from->any);
+    RAISE(prov, REASON_NOT_FOUND, "no %s has the name %s", words_for(wanted), name);
     return NULL;
 }
 
 /* Public keys and certificates */
 
 /* The public key of a PEM, which is PKCS #1 or SubjectPublicKeyInfo; null: there is none. */
-static EVP_PKEY *key_of_pem(const provider *it, BIO *pem) {
+static EVP_PKEY *key_of_pem(const provider *prov, BIO *pem) {
     EVP_PKEY *key = NULL;
-    OSSL_DECODER_CTX *decoder =
-        OSSL_DECODER_CTX_new_for_pkey(&key, "PEM", NULL, "RSA", EVP_PKEY_PUBLIC_KEY, it->own, NULL);
+    OSSL_DECODER_CTX *decoder = OSSL_DECODER_CTX_new_for_pkey(&key, "PEM", NULL, "RSA",
+                                                              EVP_PKEY_PUBLIC_KEY, prov->own, NULL);
     bool good = decoder && OSSL_DECODER_from_bio(decoder, pem);
     OSSL_DECODER_CTX_free(decoder);
     if (good) return key;
@@ -143,9 +143,9 @@ static EVP_PKEY *key_of_pem(const provider *it, BIO *pem) {
     return NULL;
 }
 
-static EVP_PKEY *key_of_certificate(const provider *it, BIO *pem) {
+static EVP_PKEY *key_of_certificate(const provider *prov, BIO *pem) {
     EVP_PKEY *key = NULL;
-    X509 *certificate = X509_new_ex(it->own, NULL);
+    X509 *certificate = X509_new_ex(prov->own, NULL);
     if (certificate && PEM_read_bio_X509(pem, &certificate, NULL, NULL))
         key = X509_get_pubkey(certificate);
     X509_free(certificate);
@@ -153,22 +153,22 @@ static EVP_PKEY *key_of_certificate(const provider *it, BIO *pem) {
 }
 
 /* The key of a file with a certificate or a public key in PEM. */
-static EVP_PKEY *key_of_file(const provider *it, const char *path) {
+static EVP_PKEY *key_of_file(const provider *prov, const char *path) {
     ERR_set_mark();
     BIO *file = BIO_new_file(path, "r");
-    EVP_PKEY *key = file ? key_of_certificate(it, file) : NULL;
-    if (file && !key && BIO_reset(file) == 0) key = key_of_pem(it, file);
+    EVP_PKEY *key = file ? key_of_certificate(prov, file) : NULL;
+    if (file && !key && BIO_reset(file) == 0) key = key_of_pem(prov, file);
     BIO_free(file);
     ERR_pop_to_mark();
     if (key && EVP_PKEY_is_a(key, "RSA")) return key;
     EVP_PKEY_free(key);
-    RAISE(it, REASON_KEY, "%s cannot be read, or begins with no certificate or key of RSA in PEM",
+    RAISE(prov, REASON_KEY, "%s cannot be read, or begins with no certificate or key of RSA in PEM",
           path);
     return NULL;
 }
 
 /* The object as PEM, of a type that it is known to have and that is not private. */
-static BIO *get(const provider *it, connection *by, const char *id, const char *type) {
+static BIO *get(const provider *prov, connection *by, const char *id, const char *type) {
     const char *words[] = {id, NULL};
     kmip_client *client = connection_call(by, "get", words);
     if (!client) return NULL;
@@ -176,49 +176,49 @@ static BIO *get(const provider *it, connection *by, const char *id, const char *
     bool good = got && strcmp(got, type) == 0;
     const char *pem = good ? kmip_pem(client) : NULL;
     if (!pem) {
-        RAISE(it, REASON_KEY, "the server gave out the object %s as no %s that has a PEM form", id,
-              type);
+        RAISE(prov, REASON_KEY, "the server gave out the object %s as no %s that has a PEM form",
+              id, type);
         return NULL;
     }
     BIO *made = BIO_new(BIO_s_mem());
     if (made && BIO_puts(made, pem) == (int)strlen(pem)) return made;
     BIO_free(made);
-    RAISE(it, REASON_MEMORY, "the object %s", id);
+    RAISE(prov, REASON_MEMORY, "the object %s", id);
     return NULL;
 }
 
-static EVP_PKEY *get_public(const provider *it, connection *by, const char *id) {
-    BIO *pem = get(it, by, id, PUBLIC);
+static EVP_PKEY *get_public(const provider *prov, connection *by, const char *id) {
+    BIO *pem = get(prov, by, id, PUBLIC);
     if (!pem) return NULL;
     ERR_set_mark();
-    EVP_PKEY *key = key_of_pem(it, pem);
+    EVP_PKEY *key = key_of_pem(prov, pem);
     ERR_pop_to_mark();
     BIO_free(pem);
-    if (!key) RAISE(it, REASON_KEY, "the object %s is no public key of RSA", id);
+    if (!key) RAISE(prov, REASON_KEY, "the object %s is no public key of RSA", id);
     return key;
 }
 
-static EVP_PKEY *get_if_public(const provider *it, connection *by, const char *id) {
+static EVP_PKEY *get_if_public(const provider *prov, connection *by, const char *id) {
     about what;
     bool asked = ask_about(by, id, &what);
     OPENSSL_free(what.linked);
     if (!asked) return NULL;
-    if (strcmp(what.type, PUBLIC) == 0) return get_public(it, by, id);
-    RAISE(it, REASON_KEY, "the object %s is a %s, and no %s", id, what.type, PUBLIC);
+    if (strcmp(what.type, PUBLIC) == 0) return get_public(prov, by, id);
+    RAISE(prov, REASON_KEY, "the object %s is a %s, and no %s", id, what.type, PUBLIC);
     return NULL;
 }
 
 /* The public key with a name, or with the private key's name where `needed` is false; null also
    where there is none, and then an error was raised in any case. */
-static EVP_PKEY *public_by_name(const provider *it, connection *by, const char *id,
+static EVP_PKEY *public_by_name(const provider *prov, connection *by, const char *id,
                                 const char *name, bool needed) {
     bool good = true;
-    char *found = name ? locate_one(it, by, name, PUBLIC, &good) : NULL;
-    EVP_PKEY *key = found ? get_public(it, by, found) : NULL;
+    char *found = name ? locate_one(prov, by, name, PUBLIC, &good) : NULL;
+    EVP_PKEY *key = found ? get_public(prov, by, found) : NULL;
     if (!found && good && needed)
-        RAISE(it, REASON_NOT_FOUND, "no %s has the name %s", PUBLIC, name);
+        RAISE(prov, REASON_NOT_FOUND, "no %s has the name %s", PUBLIC, name);
     if (!found && good && !needed)
-        RAISE(it, REASON_NOT_FOUND,
+        RAISE(prov, REASON_NOT_FOUND,
               "the private key %s has no link to its public key: add ;public-id=, ;public-name= or "
               ";public-file= to its URI",
               id);
@@ -226,95 +226,95 @@ static EVP_PKEY *public_by_name(const provider *it, connection *by, const char *
     return key;
 }
 
-static EVP_PKEY *public_of(const provider *it, connection *by, const uri *from, const char *id,
+static EVP_PKEY *public_of(const provider *prov, connection *by, const uri *from, const char *id,
                            const char *linked) {
-    if (from->public_file) return key_of_file(it, from->public_file);
-    if (from->public_id) return get_if_public(it, by, from->public_id);
-    if (from->public_name) return public_by_name(it, by, id, from->public_name, true);
-    if (linked) return get_if_public(it, by, linked);
-    return public_by_name(it, by, id, from->name ? from->name : from->any, false);
+    if (from->public_file) return key_of_file(prov, from->public_file);
+    if (from->public_id) return get_if_public(prov, by, from->public_id);
+    if (from->public_name) return public_by_name(prov, by, id, from->public_name, true);
+    if (linked) return get_if_public(prov, by, linked);
+    return public_by_name(prov, by, id, from->name ? from->name : from->any, false);
 }
 
-static bool take_private(provider *it, connection *by, const uri *from, const char *id,
+static bool take_private(provider *prov, connection *by, const uri *from, const char *id,
                          const about *what, int wanted, object *into) {
     if (strcmp(what->algorithm, "RSA") != 0)
-        return RAISE(it, REASON_KEY, "the private key %s is one of %s, and not of RSA", id,
+        return RAISE(prov, REASON_KEY, "the private key %s is one of %s, and not of RSA", id,
                      *what->algorithm ? what->algorithm : "an unknown algorithm");
-    EVP_PKEY *public = public_of(it, by, from, id, what->linked);
+    EVP_PKEY *public = public_of(prov, by, from, id, what->linked);
     if (!public) return false;
     if (!(wanted & WANT_PRIVATE)) {
         into->public = public;
         return true;
     }
-    into->key = key_new(it);
+    into->key = key_new(prov);
     if (!into->key) {
         EVP_PKEY_free(public);
         return false;
     }
     into->key->public = public;
-    into->key->id = copy(it, id);
+    into->key->id = copy(prov, id);
     return into->key->id != NULL;
 }
 
-static bool take_certificate(const provider *it, connection *by, const char *id, object *into) {
+static bool take_certificate(const provider *prov, connection *by, const char *id, object *into) {
     char *name = NULL, *header = NULL;
     long length = 0;
-    BIO *pem = get(it, by, id, CERTIFICATE);
+    BIO *pem = get(prov, by, id, CERTIFICATE);
     if (!pem) return false;
     bool read = PEM_read_bio(pem, &name, &header, &into->certificate, &length) == 1;
     into->length = read ? (size_t)length : 0;
     OPENSSL_free(name);
     OPENSSL_free(header);
     BIO_free(pem);
-    return read || RAISE(it, REASON_KEY, "the object %s is no X.509 certificate", id);
+    return read || RAISE(prov, REASON_KEY, "the object %s is no X.509 certificate", id);
 }
 
-static bool take(provider *it, connection *by, const uri *from, const char *id, int wanted,
+static bool take(provider *prov, connection *by, const uri *from, const char *id, int wanted,
                  object *into) {
     about what;
     bool done = false;
     if (!ask_about(by, id, &what)) {
         done = false;
     } else if (strcmp(what.type, PRIVATE) == 0 && (wanted & (WANT_PRIVATE | WANT_PUBLIC))) {
-        done = take_private(it, by, from, id, &what, wanted, into);
+        done = take_private(prov, by, from, id, &what, wanted, into);
     } else if (strcmp(what.type, PUBLIC) == 0 && (wanted & WANT_PUBLIC)) {
-        into->public = get_public(it, by, id);
+        into->public = get_public(prov, by, id);
         done = into->public != NULL;
     } else if (strcmp(what.type, CERTIFICATE) == 0 && (wanted & WANT_CERTIFICATE)) {
-        done = take_certificate(it, by, id, into);
+        done = take_certificate(prov, by, id, into);
     } else {
-        RAISE(it, REASON_KEY, "the object %s is a %s, and no %s", id,
+        RAISE(prov, REASON_KEY, "the object %s is a %s, and no %s", id,
               *what.type ? what.type : "thing of no type", words_for(wanted));
     }
     OPENSSL_free(what.linked);
     return done;
 }
 
-bool find(provider *it, const uri *from, int wanted, object *into) {
+bool find(provider *prov, const uri *from, int wanted, object *into) {
     memset(into, 0, sizeof *into);
-    connection *by = connection_take(it);
+    connection *by = connection_take(prov);
     if (!by) return false;
-    char *id = object_id(it, by, from, wanted);
-    bool done = id && take(it, by, from, id, wanted, into);
+    char *id = object_id(prov, by, from, wanted);
+    bool done = id && take(prov, by, from, id, wanted, into);
     connection_give_back(by);
     OPENSSL_free(id);
     if (!done) object_free(into);
     return done;
 }
 
-void object_free(object *it) {
-    key_free(it->key);
-    EVP_PKEY_free(it->public);
-    OPENSSL_free(it->certificate);
-    memset(it, 0, sizeof *it);
+void object_free(object *one) {
+    key_free(one->key);
+    EVP_PKEY_free(one->public);
+    OPENSSL_free(one->certificate);
+    memset(one, 0, sizeof *one);
 }
 
 /* Handing over */
 
-static int hand_over_key(const object *it, OSSL_CALLBACK *take_it, void *taker) {
+static int hand_over_key(const object *one, OSSL_CALLBACK *take_it, void *taker) {
     int type = OSSL_OBJECT_PKEY;
     char name[] = "RSA";
-    key_reference reference = {it->key};
+    key_reference reference = {one->key};
     OSSL_PARAM params[] = {OSSL_PARAM_construct_int(OSSL_OBJECT_PARAM_TYPE, &type),
                            OSSL_PARAM_construct_utf8_string(OSSL_OBJECT_PARAM_DATA_TYPE, name, 0),
                            OSSL_PARAM_construct_octet_string(OSSL_OBJECT_PARAM_REFERENCE,
@@ -324,11 +324,11 @@ static int hand_over_key(const object *it, OSSL_CALLBACK *take_it, void *taker) 
 }
 
 /* A public key is one of OpenSSL's own, for any use. */
-static int hand_over_public(const object *it, OSSL_CALLBACK *take_it, void *taker) {
+static int hand_over_public(const object *one, OSSL_CALLBACK *take_it, void *taker) {
     int type = OSSL_OBJECT_PKEY;
     char name[] = "RSA", structure[] = "SubjectPublicKeyInfo";
     unsigned char *der = NULL;
-    int length = i2d_PUBKEY(it->public, &der);
+    int length = i2d_PUBKEY(one->public, &der);
     if (length <= 0) return 0;
     OSSL_PARAM params[] = {
         OSSL_PARAM_construct_int(OSSL_OBJECT_PARAM_TYPE, &type),
@@ -341,13 +341,13 @@ static int hand_over_public(const object *it, OSSL_CALLBACK *take_it, void *take
     return taken;
 }
 
-int object_hand_over(const object *it, OSSL_CALLBACK *take_it, void *taker) {
-    if (it->key) return hand_over_key(it, take_it, taker);
-    if (it->public) return hand_over_public(it, take_it, taker);
+int object_hand_over(const object *one, OSSL_CALLBACK *take_it, void *taker) {
+    if (one->key) return hand_over_key(one, take_it, taker);
+    if (one->public) return hand_over_public(one, take_it, taker);
     int type = OSSL_OBJECT_CERT;
     OSSL_PARAM params[] = {
         OSSL_PARAM_construct_int(OSSL_OBJECT_PARAM_TYPE, &type),
-        OSSL_PARAM_construct_octet_string(OSSL_OBJECT_PARAM_DATA, it->certificate, it->length),
+        OSSL_PARAM_construct_octet_string(OSSL_OBJECT_PARAM_DATA, one->certificate, one->length),
         OSSL_PARAM_construct_end()};
     return take_it(params, taker);
 }

@@ -7,16 +7,17 @@
 static const hash hashes[] = {
     {"SHA224", 28, 4, 14}, {"SHA256", 32, 1, 11}, {"SHA384", 48, 2, 12}, {"SHA512", 64, 3, 13}};
 
-const hash *hash_of(const provider *it, const char *name) {
+const hash *hash_of(const provider *prov, const char *name) {
     ERR_set_mark();
-    EVP_MD *fetched = EVP_MD_fetch(it->own, name, NULL);
+    EVP_MD *fetched = EVP_MD_fetch(prov->own, name, NULL);
     ERR_pop_to_mark();
     const hash *found = NULL;
     for (size_t i = 0; fetched && i < sizeof hashes / sizeof *hashes; i++)
         if (EVP_MD_is_a(fetched, hashes[i].name)) found = &hashes[i];
     EVP_MD_free(fetched);
     if (!found)
-        RAISE(it, REASON_PARAMETERS, "the hash %s; SHA224, SHA256, SHA384 and SHA512 can be", name);
+        RAISE(prov, REASON_PARAMETERS, "the hash %s; SHA224, SHA256, SHA384 and SHA512 can be",
+              name);
     return found;
 }
 
@@ -26,73 +27,73 @@ typedef struct {
     size_t at;
 } writer;
 
-static void put(writer *it, const uint8_t *bytes, size_t count) {
-    it->at -= count;
-    memcpy(it->bytes + it->at, bytes, count);
+static void put(writer *out, const uint8_t *bytes, size_t count) {
+    out->at -= count;
+    memcpy(out->bytes + out->at, bytes, count);
 }
 
 /* Puts the head before what was put since then. */
-static void wrap(writer *it, uint8_t tag, size_t since) {
-    uint8_t head[] = {tag, (uint8_t)(since - it->at)};
-    put(it, head, sizeof head);
+static void wrap(writer *out, uint8_t tag, size_t since) {
+    uint8_t head[] = {tag, (uint8_t)(since - out->at)};
+    put(out, head, sizeof head);
 }
 
-static void put_null(writer *it) {
+static void put_null(writer *out) {
     static const uint8_t null[] = {0x05, 0x00};
-    put(it, null, sizeof null);
+    put(out, null, sizeof null);
 }
 
-static void put_pkcs1_oid(writer *it, uint8_t end) {
+static void put_pkcs1_oid(writer *out, uint8_t end) {
     uint8_t oid[] = {0x06, 0x09, 0x2A, 0x86, 0x48, 0x86, 0xF7, 0x0D, 0x01, 0x01, end};
-    put(it, oid, sizeof oid);
+    put(out, oid, sizeof oid);
 }
 
-static void put_hash(writer *it, const hash *what) {
+static void put_hash(writer *out, const hash *what) {
     uint8_t oid[] = {0x06, 0x09, 0x60, 0x86, 0x48, 0x01, 0x65, 0x03, 0x04, 0x02, what->oid_end};
-    size_t since = it->at;
-    put_null(it);
-    put(it, oid, sizeof oid);
-    wrap(it, 0x30, since);
+    size_t since = out->at;
+    put_null(out);
+    put(out, oid, sizeof oid);
+    wrap(out, 0x30, since);
 }
 
 /* DER leaves out what is the default, 20. */
-static void put_salt(writer *it, int salt) {
+static void put_salt(writer *out, int salt) {
     uint8_t bytes[] = {(uint8_t)(salt >> 8), (uint8_t)salt};
-    size_t since = it->at;
+    size_t since = out->at;
     bool two = salt > 127;
     if (salt == 20) return;
-    put(it, bytes + !two, two ? 2 : 1);
-    wrap(it, 0x02, since);
-    wrap(it, 0xA2, since);
+    put(out, bytes + !two, two ? 2 : 1);
+    wrap(out, 0x02, since);
+    wrap(out, 0xA2, since);
 }
 
-static void put_mask(writer *it, const hash *what) {
-    size_t since = it->at;
-    put_hash(it, what);
-    put_pkcs1_oid(it, 8);
-    wrap(it, 0x30, since);
-    wrap(it, 0xA1, since);
+static void put_mask(writer *out, const hash *what) {
+    size_t since = out->at;
+    put_hash(out, what);
+    put_pkcs1_oid(out, 8);
+    wrap(out, 0x30, since);
+    wrap(out, 0xA1, since);
 }
 
-static void put_pss(writer *it, const hash *what, int salt) {
-    size_t since = it->at;
-    put_salt(it, salt);
-    put_mask(it, what);
-    size_t before = it->at;
-    put_hash(it, what);
-    wrap(it, 0xA0, before);
-    wrap(it, 0x30, since);
-    put_pkcs1_oid(it, 10);
+static void put_pss(writer *out, const hash *what, int salt) {
+    size_t since = out->at;
+    put_salt(out, salt);
+    put_mask(out, what);
+    size_t before = out->at;
+    put_hash(out, what);
+    wrap(out, 0xA0, before);
+    wrap(out, 0x30, since);
+    put_pkcs1_oid(out, 10);
 }
 
-size_t hash_identify(const hash *it, bool pss, int salt, uint8_t *into, size_t room) {
+size_t hash_identify(const hash *digest, bool pss, int salt, uint8_t *into, size_t room) {
     writer made = {.at = sizeof made.bytes};
     if (pss && (salt < 0 || salt > 0x7FFF)) return 0;
     if (pss) {
-        put_pss(&made, it, salt);
+        put_pss(&made, digest, salt);
     } else {
         put_null(&made);
-        put_pkcs1_oid(&made, it->rsa_oid_end);
+        put_pkcs1_oid(&made, digest->rsa_oid_end);
     }
     wrap(&made, 0x30, sizeof made.bytes);
     size_t count = sizeof made.bytes - made.at;

@@ -15,8 +15,8 @@ static void keymgmt_free(void *given) {
 }
 
 static void *keymgmt_load(const void *reference, size_t size) {
-    const key_reference *it = reference;
-    return size == sizeof *it ? key_take(it->key) : NULL;
+    const key_reference *ref = reference;
+    return size == sizeof *ref ? key_take(ref->key) : NULL;
 }
 
 /* A key never changes, so that a second one is the same. */
@@ -26,16 +26,16 @@ static void *keymgmt_dup(const void *given, int selection) {
 }
 
 static int keymgmt_has(const void *given, int selection) {
-    const private_key *it = given;
-    bool lacks_private = (selection & OSSL_KEYMGMT_SELECT_PRIVATE_KEY) && !it->id;
-    bool lacks_public = (selection & OSSL_KEYMGMT_SELECT_PUBLIC_KEY) && !it->public;
+    const private_key *key = given;
+    bool lacks_private = (selection & OSSL_KEYMGMT_SELECT_PRIVATE_KEY) && !key->id;
+    bool lacks_public = (selection & OSSL_KEYMGMT_SELECT_PUBLIC_KEY) && !key->public;
     return !lacks_private && !lacks_public;
 }
 
 static int keymgmt_match(const void *given, const void *other, int selection) {
-    const private_key *it = given, *that = other;
+    const private_key *key = given, *that = other;
     if (!(selection & OSSL_KEYMGMT_SELECT_KEYPAIR)) return 1;
-    return it->public && that->public && EVP_PKEY_eq(it->public, that->public) == 1;
+    return key->public && that->public && EVP_PKEY_eq(key->public, that->public) == 1;
 }
 
 static const OSSL_PARAM *keymgmt_types(int selection) {
@@ -47,13 +47,13 @@ static const OSSL_PARAM *keymgmt_types(int selection) {
 
 /* Takes a public key; a private one is refused, so that OpenSSL looks for who can use it. */
 static int keymgmt_import(void *given, int selection, const OSSL_PARAM params[]) {
-    private_key *it = given;
-    if (!(selection & OSSL_KEYMGMT_SELECT_PUBLIC_KEY) || it->public) return 0;
+    private_key *key = given;
+    if (!(selection & OSSL_KEYMGMT_SELECT_PUBLIC_KEY) || key->public) return 0;
     if (OSSL_PARAM_locate_const(params, OSSL_PKEY_PARAM_RSA_D)) return 0;
-    EVP_PKEY_CTX *context = EVP_PKEY_CTX_new_from_name(it->provider->own, "RSA", NULL);
+    EVP_PKEY_CTX *context = EVP_PKEY_CTX_new_from_name(key->provider->own, "RSA", NULL);
     bool made =
         context && EVP_PKEY_fromdata_init(context) > 0 &&
-        EVP_PKEY_fromdata(context, &it->public, EVP_PKEY_PUBLIC_KEY, (OSSL_PARAM *)params) > 0;
+        EVP_PKEY_fromdata(context, &key->public, EVP_PKEY_PUBLIC_KEY, (OSSL_PARAM *)params) > 0;
     EVP_PKEY_CTX_free(context);
     return made;
 }
@@ -61,10 +61,10 @@ static int keymgmt_import(void *given, int selection, const OSSL_PARAM params[])
 /* Gives the public part; for a private key that is asked for as a whole, nothing, so that its
    operations come here. */
 static int keymgmt_export(void *given, int selection, OSSL_CALLBACK *take, void *taker) {
-    const private_key *it = given;
+    const private_key *key = given;
     bool wants_private = selection & OSSL_KEYMGMT_SELECT_PRIVATE_KEY;
-    if (!it->public || (wants_private && it->id)) return 0;
-    return EVP_PKEY_export(it->public, EVP_PKEY_PUBLIC_KEY, take, taker);
+    if (!key->public || (wants_private && key->id)) return 0;
+    return EVP_PKEY_export(key->public, EVP_PKEY_PUBLIC_KEY, take, taker);
 }
 
 static const OSSL_PARAM *keymgmt_gettable(void *context) {
@@ -81,8 +81,8 @@ static const OSSL_PARAM *keymgmt_gettable(void *context) {
 }
 
 static int keymgmt_get(void *given, OSSL_PARAM params[]) {
-    const private_key *it = given;
-    return it->public && EVP_PKEY_get_params(it->public, params) > 0;
+    const private_key *key = given;
+    return key->public && EVP_PKEY_get_params(key->public, params) > 0;
 }
 
 static const char *keymgmt_operation(int operation) {

@@ -33,12 +33,12 @@ static int padding_of(const OSSL_PARAM *param) {
     return strcmp(text, OSSL_PKEY_RSA_PAD_MODE_PSS) == 0 ? RSA_PKCS1_PSS_PADDING : 0;
 }
 
-static bool set_padding(signature *it, const OSSL_PARAM *param) {
+static bool set_padding(signature *ctx, const OSSL_PARAM *param) {
     int padding = padding_of(param);
     if (padding != RSA_PKCS1_PADDING && padding != RSA_PKCS1_PSS_PADDING)
-        return RAISE(it->provider, REASON_PARAMETERS,
+        return RAISE(ctx->provider, REASON_PARAMETERS,
                      "the padding; PKCS #1 v1.5 (pkcs1) and PSS (pss) can be");
-    it->padding = padding;
+    ctx->padding = padding;
     return true;
 }
 
@@ -58,32 +58,32 @@ static bool salt_of(const OSSL_PARAM *param, int *salt) {
     return *text && !*end;
 }
 
-static bool set_salt(signature *it, const OSSL_PARAM *param) {
+static bool set_salt(signature *ctx, const OSSL_PARAM *param) {
     int salt = 0;
     if (!salt_of(param, &salt) || salt < RSA_PSS_SALTLEN_AUTO_DIGEST_MAX || salt > 0x7FFF)
-        return RAISE(it->provider, REASON_PARAMETERS,
+        return RAISE(ctx->provider, REASON_PARAMETERS,
                      "the length of the salt; digest, max, auto and 0 to 32767 can be");
-    it->salt = salt;
+    ctx->salt = salt;
     return true;
 }
 
-bool signature_set_hash(signature *it, const char *name) {
-    const hash *of = hash_of(it->provider, name);
-    if (of) it->hash = of;
+bool signature_set_hash(signature *ctx, const char *name) {
+    const hash *of = hash_of(ctx->provider, name);
+    if (of) ctx->hash = of;
     return of != NULL;
 }
 
 /* The hash of PSS's mask is that of the data, since KMIP 1.2 has one hash alone. */
-static bool set_mask(const signature *it, const OSSL_PARAM *param) {
+static bool set_mask(const signature *ctx, const OSSL_PARAM *param) {
     const char *name = NULL;
     if (!OSSL_PARAM_get_utf8_string_ptr(param, &name)) return false;
-    const hash *of = hash_of(it->provider, name);
-    if (!of || of == it->hash) return of != NULL;
-    return RAISE(it->provider, REASON_PARAMETERS, "a hash of its own for the mask of PSS");
+    const hash *of = hash_of(ctx->provider, name);
+    if (!of || of == ctx->hash) return of != NULL;
+    return RAISE(ctx->provider, REASON_PARAMETERS, "a hash of its own for the mask of PSS");
 }
 
 int signature_set(void *given, const OSSL_PARAM params[]) {
-    signature *it = given;
+    signature *ctx = given;
     if (!params) return 1;
     const OSSL_PARAM *by_hash = OSSL_PARAM_locate_const(params, OSSL_SIGNATURE_PARAM_DIGEST);
     const OSSL_PARAM *padding = OSSL_PARAM_locate_const(params, OSSL_SIGNATURE_PARAM_PAD_MODE);
@@ -91,10 +91,10 @@ int signature_set(void *given, const OSSL_PARAM params[]) {
     const OSSL_PARAM *mask = OSSL_PARAM_locate_const(params, OSSL_SIGNATURE_PARAM_MGF1_DIGEST);
     const char *name = NULL;
     if (by_hash &&
-        !(OSSL_PARAM_get_utf8_string_ptr(by_hash, &name) && signature_set_hash(it, name)))
+        !(OSSL_PARAM_get_utf8_string_ptr(by_hash, &name) && signature_set_hash(ctx, name)))
         return 0;
-    return (!padding || set_padding(it, padding)) && (!salt || set_salt(it, salt)) &&
-           (!mask || set_mask(it, mask));
+    return (!padding || set_padding(ctx, padding)) && (!salt || set_salt(ctx, salt)) &&
+           (!mask || set_mask(ctx, mask));
 }
 
 const OSSL_PARAM *signature_settable(void *given, void *context) {
@@ -108,40 +108,40 @@ const OSSL_PARAM *signature_settable(void *given, void *context) {
     return known;
 }
 
-static int longest_salt(const signature *it) {
-    return (EVP_PKEY_get_bits(it->key->public) + 6) / 8 - it->hash->size - 2;
+static int longest_salt(const signature *ctx) {
+    return (EVP_PKEY_get_bits(ctx->key->public) + 6) / 8 - ctx->hash->size - 2;
 }
 
 /* The length of the salts that the server makes. */
-static int made_salt(const signature *it) {
-    return it->provider->settings.salts_are_max ? longest_salt(it) : it->hash->size;
+static int made_salt(const signature *ctx) {
+    return ctx->provider->settings.salts_are_max ? longest_salt(ctx) : ctx->hash->size;
 }
 
-int signature_salt(const signature *it) {
-    int longest = longest_salt(it);
-    switch (it->salt) {
-    case RSA_PSS_SALTLEN_DIGEST: return it->hash->size;
+int signature_salt(const signature *ctx) {
+    int longest = longest_salt(ctx);
+    switch (ctx->salt) {
+    case RSA_PSS_SALTLEN_DIGEST: return ctx->hash->size;
     case RSA_PSS_SALTLEN_MAX: return longest;
     case RSA_PSS_SALTLEN_AUTO_DIGEST_MAX:
-        return it->hash->size < longest ? it->hash->size : longest;
-    default: return it->salt < 0 ? made_salt(it) : it->salt;
+        return ctx->hash->size < longest ? ctx->hash->size : longest;
+    default: return ctx->salt < 0 ? made_salt(ctx) : ctx->salt;
     }
 }
 
-bool signature_salt_can_be(const signature *it) {
-    if (it->padding != RSA_PKCS1_PSS_PADDING || signature_salt(it) == made_salt(it)) return true;
+bool signature_salt_can_be(const signature *ctx) {
+    if (ctx->padding != RSA_PKCS1_PSS_PADDING || signature_salt(ctx) == made_salt(ctx)) return true;
     return RAISE(
-        it->provider, REASON_PARAMETERS,
+        ctx->provider, REASON_PARAMETERS,
         "a PSS salt of %d bytes: by pss_salt the server makes %d, and KMIP 1.2 has no item "
         "to ask for another",
-        signature_salt(it), made_salt(it));
+        signature_salt(ctx), made_salt(ctx));
 }
 
-static int put_identifier(const signature *it, OSSL_PARAM *into) {
+static int put_identifier(const signature *ctx, OSSL_PARAM *into) {
     uint8_t bytes[128];
-    if (!it->hash || !it->key || !signature_salt_can_be(it)) return 0;
-    bool pss = it->padding == RSA_PKCS1_PSS_PADDING;
-    size_t count = hash_identify(it->hash, pss, signature_salt(it), bytes, sizeof bytes);
+    if (!ctx->hash || !ctx->key || !signature_salt_can_be(ctx)) return 0;
+    bool pss = ctx->padding == RSA_PKCS1_PSS_PADDING;
+    size_t count = hash_identify(ctx->hash, pss, signature_salt(ctx), bytes, sizeof bytes);
     return count && OSSL_PARAM_set_octet_string(into, bytes, count);
 }
 
@@ -150,30 +150,30 @@ static int put_named(OSSL_PARAM *into, int number, const char *name) {
     return OSSL_PARAM_set_utf8_string(into, name);
 }
 
-static int put_salt(const signature *it, OSSL_PARAM *into) {
+static int put_salt(const signature *ctx, OSSL_PARAM *into) {
     char digits[12];
-    if (BIO_snprintf(digits, sizeof digits, "%d", it->salt) < 0) return 0;
+    if (BIO_snprintf(digits, sizeof digits, "%d", ctx->salt) < 0) return 0;
     const char *name = digits;
     for (size_t i = 0; i < SALTS; i++)
-        if (salts[i].salt == it->salt) name = salts[i].name;
-    return put_named(into, it->salt, name);
+        if (salts[i].salt == ctx->salt) name = salts[i].name;
+    return put_named(into, ctx->salt, name);
 }
 
 int signature_get(void *given, OSSL_PARAM params[]) {
-    const signature *it = given;
+    const signature *ctx = given;
     if (!params) return 1;
     OSSL_PARAM *identifier = OSSL_PARAM_locate(params, OSSL_SIGNATURE_PARAM_ALGORITHM_ID);
     OSSL_PARAM *padding = OSSL_PARAM_locate(params, OSSL_SIGNATURE_PARAM_PAD_MODE);
     OSSL_PARAM *by_hash = OSSL_PARAM_locate(params, OSSL_SIGNATURE_PARAM_DIGEST);
     OSSL_PARAM *mask = OSSL_PARAM_locate(params, OSSL_SIGNATURE_PARAM_MGF1_DIGEST);
     OSSL_PARAM *salt = OSSL_PARAM_locate(params, OSSL_SIGNATURE_PARAM_PSS_SALTLEN);
-    const char *name = it->hash ? it->hash->name : "";
-    const char *mode = it->padding == RSA_PKCS1_PADDING ? OSSL_PKEY_RSA_PAD_MODE_PKCSV15
-                                                        : OSSL_PKEY_RSA_PAD_MODE_PSS;
-    return (!identifier || put_identifier(it, identifier)) &&
-           (!padding || put_named(padding, it->padding, mode)) &&
+    const char *name = ctx->hash ? ctx->hash->name : "";
+    const char *mode = ctx->padding == RSA_PKCS1_PADDING ? OSSL_PKEY_RSA_PAD_MODE_PKCSV15
+                                                         : OSSL_PKEY_RSA_PAD_MODE_PSS;
+    return (!identifier || put_identifier(ctx, identifier)) &&
+           (!padding || put_named(padding, ctx->padding, mode)) &&
            (!by_hash || OSSL_PARAM_set_utf8_string(by_hash, name)) &&
-           (!mask || OSSL_PARAM_set_utf8_string(mask, name)) && (!salt || put_salt(it, salt));
+           (!mask || OSSL_PARAM_set_utf8_string(mask, name)) && (!salt || put_salt(ctx, salt));
 }
 
 const OSSL_PARAM *signature_gettable(void *given, void *context) {

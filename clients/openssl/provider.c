@@ -7,13 +7,13 @@
 #include <openssl/provider.h>
 #include <stdarg.h>
 
-bool provider_raise(const provider *it, int reason, const char *file, int line, const char *format,
-                    ...) {
+bool provider_raise(const provider *prov, int reason, const char *file, int line,
+                    const char *format, ...) {
     va_list given;
     va_start(given, format);
-    it->new_error(it->core);
-    it->set_error_debug(it->core, file, line, "");
-    it->vset_error(it->core, (uint32_t)reason, format, given);
+    prov->new_error(prov->core);
+    prov->set_error_debug(prov->core, file, line, "");
+    prov->vset_error(prov->core, (uint32_t)reason, format, given);
     va_end(given);
     return false;
 }
@@ -39,11 +39,11 @@ static const OSSL_ITEM *get_reasons(void *given) {
 }
 
 static void teardown(void *given) {
-    provider *it = given;
-    connections_end(it);
-    OSSL_LIB_CTX_free(it->own);
-    settings_free(it);
-    OPENSSL_free(it);
+    provider *prov = given;
+    connections_end(prov);
+    OSSL_LIB_CTX_free(prov->own);
+    settings_free(prov);
+    OPENSSL_free(prov);
 }
 
 static const OSSL_PARAM *gettable(void *given) {
@@ -71,13 +71,13 @@ static int get(void *given, OSSL_PARAM params[]) {
 }
 
 static const OSSL_ALGORITHM *query(void *given, int operation, int *no_cache) {
-    const provider *it = given;
+    const provider *prov = given;
     *no_cache = 0;
     switch (operation) {
     case OSSL_OP_STORE: return provider_stores;
     case OSSL_OP_KEYMGMT: return provider_keymgmts;
     case OSSL_OP_SIGNATURE: return provider_signatures;
-    case OSSL_OP_DECODER: return it->gets ? provider_decoders : NULL;
+    case OSSL_OP_DECODER: return prov->gets ? provider_decoders : NULL;
     default: return NULL;
     }
 }
@@ -90,16 +90,16 @@ static const OSSL_DISPATCH functions[] = {
     FUNCTION(OSSL_FUNC_PROVIDER_GET_REASON_STRINGS, get_reasons),
     END_OF_FUNCTIONS};
 
-static void take_functions(provider *it, const OSSL_DISPATCH *in) {
+static void take_functions(provider *prov, const OSSL_DISPATCH *in) {
     for (; in->function_id; in++) {
         switch (in->function_id) {
-        case OSSL_FUNC_CORE_GET_PARAMS: it->get_params = OSSL_FUNC_core_get_params(in); break;
-        case OSSL_FUNC_CORE_NEW_ERROR: it->new_error = OSSL_FUNC_core_new_error(in); break;
+        case OSSL_FUNC_CORE_GET_PARAMS: prov->get_params = OSSL_FUNC_core_get_params(in); break;
+        case OSSL_FUNC_CORE_NEW_ERROR: prov->new_error = OSSL_FUNC_core_new_error(in); break;
         case OSSL_FUNC_CORE_SET_ERROR_DEBUG:
-            it->set_error_debug = OSSL_FUNC_core_set_error_debug(in);
+            prov->set_error_debug = OSSL_FUNC_core_set_error_debug(in);
             break;
-        case OSSL_FUNC_CORE_VSET_ERROR: it->vset_error = OSSL_FUNC_core_vset_error(in); break;
-        case OSSL_FUNC_BIO_GETS: it->gets = OSSL_FUNC_BIO_gets(in); break;
+        case OSSL_FUNC_CORE_VSET_ERROR: prov->vset_error = OSSL_FUNC_core_vset_error(in); break;
+        case OSSL_FUNC_BIO_GETS: prov->gets = OSSL_FUNC_BIO_gets(in); break;
         default: break;
         }
     }
@@ -109,14 +109,14 @@ static void take_functions(provider *it, const OSSL_DISPATCH *in) {
    which has none but those of the server, programs could make no more keys. The providers that stand
    before this one are those of a child of the library context; one that is loaded there, the null
    provider, keeps OpenSSL from adding the default one by itself. */
-static bool stands_after_rsa(const provider *it, const OSSL_DISPATCH *in) {
-    OSSL_LIB_CTX *around = OSSL_LIB_CTX_new_child(it->core, in);
+static bool stands_after_rsa(const provider *prov, const OSSL_DISPATCH *in) {
+    OSSL_LIB_CTX *around = OSSL_LIB_CTX_new_child(prov->core, in);
     OSSL_PROVIDER *null = around ? OSSL_PROVIDER_load(around, "null") : NULL;
     bool good = null && (OSSL_PROVIDER_available(around, "default") == 1 ||
                          OSSL_PROVIDER_available(around, "fips") == 1);
     if (null && OSSL_PROVIDER_unload(null) != 1) good = false;
     OSSL_LIB_CTX_free(around);
-    return good || RAISE(it, REASON_ORDER,
+    return good || RAISE(prov, REASON_ORDER,
                          "activate default (or fips) first, and metsuwan after it: in openssl.cnf, "
                          "by the order of the lines of [providers]; in a program, by that of the "
                          "calls of OSSL_PROVIDER_load");
@@ -126,17 +126,19 @@ __attribute__((visibility("default"))) OSSL_provider_init_fn OSSL_provider_init;
 
 int OSSL_provider_init(const OSSL_CORE_HANDLE *core, const OSSL_DISPATCH *in,
                        const OSSL_DISPATCH **out, void **context) {
-    provider *it = OPENSSL_zalloc(sizeof *it);
-    if (!it) return 0;
-    it->core = core;
-    take_functions(it, in);
-    bool complete = it->get_params && it->new_error && it->set_error_debug && it->vset_error;
-    it->own = complete ? OSSL_LIB_CTX_new() : NULL;
-    if (!it->own || !stands_after_rsa(it, in) || !settings_read(it) || !connections_start(it)) {
-        teardown(it);
+    provider *prov = OPENSSL_zalloc(sizeof *prov);
+    if (!prov) return 0;
+    prov->core = core;
+    take_functions(prov, in);
+    bool complete =
+        prov->get_params && prov->new_error && prov->set_error_debug && prov->vset_error;
+    prov->own = complete ? OSSL_LIB_CTX_new() : NULL;
+    if (!prov->own || !stands_after_rsa(prov, in) || !settings_read(prov) ||
+        !connections_start(prov)) {
+        teardown(prov);
         return 0;
     }
     *out = functions;
-    *context = it;
+    *context = prov;
     return 1;
 }

@@ -56,35 +56,36 @@ enum {
 };
 
 /* Raises an error on OpenSSL's queue, and is false. */
-__attribute__((format(printf, 5, 6))) bool
-provider_raise(const provider *it, int reason, const char *file, int line, const char *format, ...);
-#define RAISE(it, reason, ...) provider_raise(it, reason, __FILE__, __LINE__, __VA_ARGS__)
+__attribute__((format(printf, 5, 6))) bool provider_raise(const provider *prov, int reason,
+                                                          const char *file, int line,
+                                                          const char *format, ...);
+#define RAISE(prov, reason, ...) provider_raise(prov, reason, __FILE__, __LINE__, __VA_ARGS__)
 
 /* settings.c. Both for a provider whose settings are all zero, or read. */
-bool settings_read(provider *it);
-void settings_free(provider *it);
+bool settings_read(provider *prov);
+void settings_free(provider *prov);
 
 /* connection.c: connections, of which each is for one thread at a time. */
 
-bool connections_start(provider *it);
-void connections_end(provider *it);
+bool connections_start(provider *prov);
+void connections_end(provider *prov);
 
 /* One that no other thread has, or null with an error raised; nothing is opened yet. Waits where as
    many as may be are in use. */
-connection *connection_take(provider *it);
-void connection_give_back(connection *it);
+connection *connection_take(provider *prov);
+void connection_give_back(connection *link);
 
 /* A call of kmip_call_words: the client whose answer it is, until the next call, or null with an
    error raised. A connection that was lost before the request was sent is opened again, once. */
-kmip_client *connection_call(connection *it, const char *call, const char *const *words);
+kmip_client *connection_call(connection *link, const char *call, const char *const *words);
 
 /* uri.c: kmip:NAME-OR-ID, or kmip: and name=value with a semicolon between two. */
 typedef struct {
     char *any, *id, *name, *public_id, *public_name, *public_file;
 } uri;
 
-bool uri_read(const provider *it, const char *text, uri *into);
-void uri_free(uri *it);
+bool uri_read(const provider *prov, const char *text, uri *into);
+void uri_free(uri *parts);
 
 /* key.c: where the private part is, and the public part, which is OpenSSL's own. */
 typedef struct {
@@ -99,12 +100,12 @@ typedef struct {
     private_key *key;
 } key_reference;
 
-private_key *key_new(provider *it);
-private_key *key_take(private_key *it);
-void key_free(private_key *it);
+private_key *key_new(provider *prov);
+private_key *key_take(private_key *key);
+void key_free(private_key *key);
 
 /* Has the server sign data, with a hash and a padding by their names of KMIP. */
-bool key_sign(const private_key *it, const char *by, const char *padding, const uint8_t *data,
+bool key_sign(const private_key *key, const char *by, const char *padding, const uint8_t *data,
               size_t count, uint8_t *into, size_t room, size_t *length);
 
 /* find.c: what a URI means. One of the three is there. */
@@ -118,11 +119,11 @@ typedef struct {
 enum { WANT_PRIVATE = 1, WANT_PUBLIC = 2, WANT_CERTIFICATE = 4 };
 
 /* Finds what a URI means among what is wanted; false with an error raised. */
-bool find(provider *it, const uri *by, int wanted, object *into);
-void object_free(object *it);
+bool find(provider *prov, const uri *by, int wanted, object *into);
+void object_free(object *one);
 
 /* Hands it over to the caller of a store or of a decoder. */
-int object_hand_over(const object *it, OSSL_CALLBACK *take, void *taker);
+int object_hand_over(const object *one, OSSL_CALLBACK *take, void *taker);
 
 /* hash.c */
 typedef struct {
@@ -131,11 +132,11 @@ typedef struct {
     uint8_t oid_end, rsa_oid_end; /* the last bytes of the OIDs of it, and of RSA with it */
 } hash;
 
-const hash *hash_of(const provider *it, const char *name);
+const hash *hash_of(const provider *prov, const char *name);
 
 /* Writes an AlgorithmIdentifier as DER, for PKCS #1 v1.5, or for PSS with a salt of so many bytes:
    how many bytes it has, or 0 where it does not fit. */
-size_t hash_identify(const hash *it, bool pss, int salt, uint8_t *into, size_t room);
+size_t hash_identify(const hash *digest, bool pss, int salt, uint8_t *into, size_t room);
 
 /* signature.c and parameters.c */
 typedef struct {
@@ -147,7 +148,7 @@ typedef struct {
     size_t count, room;
 } signature;
 
-bool signature_set_hash(signature *it, const char *name);
+bool signature_set_hash(signature *ctx, const char *name);
 int signature_set(void *given, const OSSL_PARAM params[]);
 int signature_get(void *given, OSSL_PARAM params[]);
 const OSSL_PARAM *signature_settable(void *given, void *context);
@@ -155,8 +156,8 @@ const OSSL_PARAM *signature_gettable(void *given, void *context);
 
 /* The length of the salt that was asked for, and whether it is the one that the server makes; false
    with an error raised. */
-int signature_salt(const signature *it);
-bool signature_salt_can_be(const signature *it);
+int signature_salt(const signature *ctx);
+bool signature_salt_can_be(const signature *ctx);
 
 extern const OSSL_ALGORITHM provider_stores[], provider_keymgmts[], provider_signatures[],
     provider_decoders[];
@@ -166,8 +167,8 @@ extern const OSSL_ALGORITHM provider_stores[], provider_keymgmts[], provider_sig
 #define RSA_NAMES "RSA:rsaEncryption:1.2.840.113549.1.1.1"
 #define PROPERTIES "provider=metsuwan"
 
-#define FUNCTION(id, it) \
-    { id, (void (*)(void))(it) }
+#define FUNCTION(id, ctx) \
+    { id, (void (*)(void))(ctx) }
 #define END_OF_FUNCTIONS \
     { 0, NULL }
 

@@ -8,37 +8,37 @@
 #include <string.h>
 
 static void *signature_new(void *context, const char *properties) {
-    signature *it = OPENSSL_zalloc(sizeof *it);
+    signature *ctx = OPENSSL_zalloc(sizeof *ctx);
     (void)properties;
-    if (!it) return NULL;
-    it->provider = context;
-    it->padding = RSA_PKCS1_PADDING;
-    it->salt = RSA_PSS_SALTLEN_AUTO;
-    return it;
+    if (!ctx) return NULL;
+    ctx->provider = context;
+    ctx->padding = RSA_PKCS1_PADDING;
+    ctx->salt = RSA_PSS_SALTLEN_AUTO;
+    return ctx;
 }
 
-static void forget(signature *it) {
-    OPENSSL_clear_free(it->data, it->room);
-    it->data = NULL;
-    it->count = it->room = 0;
+static void forget(signature *ctx) {
+    OPENSSL_clear_free(ctx->data, ctx->room);
+    ctx->data = NULL;
+    ctx->count = ctx->room = 0;
 }
 
 static void signature_free(void *given) {
-    signature *it = given;
-    if (!it) return;
-    forget(it);
-    key_free(it->key);
-    OPENSSL_free(it);
+    signature *ctx = given;
+    if (!ctx) return;
+    forget(ctx);
+    key_free(ctx->key);
+    OPENSSL_free(ctx);
 }
 
 static void *signature_dup(void *given) {
-    const signature *it = given;
-    signature *copy = OPENSSL_memdup(it, sizeof *it);
+    const signature *ctx = given;
+    signature *copy = OPENSSL_memdup(ctx, sizeof *ctx);
     if (!copy) return NULL;
     if (copy->key) key_take(copy->key);
-    copy->room = it->count;
-    copy->data = it->count ? OPENSSL_memdup(it->data, it->count) : NULL;
-    if (!it->count || copy->data) return copy;
+    copy->room = ctx->count;
+    copy->data = ctx->count ? OPENSSL_memdup(ctx->data, ctx->count) : NULL;
+    if (!ctx->count || copy->data) return copy;
     copy->count = copy->room = 0;
     signature_free(copy);
     return NULL;
@@ -46,58 +46,58 @@ static void *signature_dup(void *given) {
 
 /* Operations over data */
 
-static bool begin(signature *it, const char *name, private_key *key, const OSSL_PARAM params[]) {
+static bool begin(signature *ctx, const char *name, private_key *key, const OSSL_PARAM params[]) {
     if (key) {
         key_take(key);
-        key_free(it->key);
-        it->key = key;
+        key_free(ctx->key);
+        ctx->key = key;
     }
-    forget(it);
-    if (!it->key || !it->key->public) return RAISE(it->provider, REASON_KEY, "no key is given");
-    return signature_set_hash(it, name && *name ? name : "SHA256") && signature_set(it, params);
+    forget(ctx);
+    if (!ctx->key || !ctx->key->public) return RAISE(ctx->provider, REASON_KEY, "no key is given");
+    return signature_set_hash(ctx, name && *name ? name : "SHA256") && signature_set(ctx, params);
 }
 
 static int sign_data_init(void *given, const char *name, void *key, const OSSL_PARAM params[]) {
-    signature *it = given;
-    if (!begin(it, name, key, params)) return 0;
-    return it->key->id || RAISE(it->provider, REASON_KEY, "a public key does not sign");
+    signature *ctx = given;
+    if (!begin(ctx, name, key, params)) return 0;
+    return ctx->key->id || RAISE(ctx->provider, REASON_KEY, "a public key does not sign");
 }
 
 static int verify_data_init(void *given, const char *name, void *key, const OSSL_PARAM params[]) {
     return begin(given, name, key, params);
 }
 
-static bool has_room(signature *it, size_t more) {
-    if (more <= it->room - it->count) return true;
-    size_t room = it->room ? 2 * it->room : 1024;
-    while (room - it->count < more && room < SIZE_MAX / 4)
+static bool has_room(signature *ctx, size_t more) {
+    if (more <= ctx->room - ctx->count) return true;
+    size_t room = ctx->room ? 2 * ctx->room : 1024;
+    while (room - ctx->count < more && room < SIZE_MAX / 4)
         room *= 2;
-    bool enough = room - it->count >= more;
-    uint8_t *data = enough ? OPENSSL_clear_realloc(it->data, it->room, room) : NULL;
-    if (!data) return RAISE(it->provider, REASON_MEMORY, "the data to sign");
-    it->data = data;
-    it->room = room;
+    bool enough = room - ctx->count >= more;
+    uint8_t *data = enough ? OPENSSL_clear_realloc(ctx->data, ctx->room, room) : NULL;
+    if (!data) return RAISE(ctx->provider, REASON_MEMORY, "the data to sign");
+    ctx->data = data;
+    ctx->room = room;
     return true;
 }
 
 static int update(void *given, const unsigned char *data, size_t count) {
-    signature *it = given;
+    signature *ctx = given;
     if (!count) return 1;
-    if (!has_room(it, count)) return 0;
-    memcpy(it->data + it->count, data, count);
-    it->count += count;
+    if (!has_room(ctx, count)) return 0;
+    memcpy(ctx->data + ctx->count, data, count);
+    ctx->count += count;
     return 1;
 }
 
 /* Verifies by OpenSSL's own RSA; a salt may be RSA_PSS_SALTLEN_AUTO, for any length. */
-static bool verifies(const signature *it, const uint8_t *data, size_t count, const uint8_t *made,
+static bool verifies(const signature *ctx, const uint8_t *data, size_t count, const uint8_t *made,
                      size_t length, int salt) {
     EVP_MD_CTX *digest = EVP_MD_CTX_new();
     EVP_PKEY_CTX *how = NULL;
-    bool good = digest && EVP_DigestVerifyInit_ex(digest, &how, it->hash->name, it->provider->own,
-                                                  NULL, it->key->public, NULL) > 0;
-    good = good && EVP_PKEY_CTX_set_rsa_padding(how, it->padding) > 0;
-    if (it->padding == RSA_PKCS1_PSS_PADDING)
+    bool good = digest && EVP_DigestVerifyInit_ex(digest, &how, ctx->hash->name, ctx->provider->own,
+                                                  NULL, ctx->key->public, NULL) > 0;
+    good = good && EVP_PKEY_CTX_set_rsa_padding(how, ctx->padding) > 0;
+    if (ctx->padding == RSA_PKCS1_PSS_PADDING)
         good = good && EVP_PKEY_CTX_set_rsa_pss_saltlen(how, salt) > 0;
     good = good && EVP_DigestVerify(digest, made, length, data, count) == 1;
     EVP_MD_CTX_free(digest);
@@ -105,67 +105,68 @@ static bool verifies(const signature *it, const uint8_t *data, size_t count, con
 }
 
 /* Whether the server's signature is one of the data, by the public key; else an error is raised. */
-static bool is_good(const signature *it, const uint8_t *data, size_t count, const uint8_t *made,
+static bool is_good(const signature *ctx, const uint8_t *data, size_t count, const uint8_t *made,
                     size_t length) {
-    bool pss = it->padding == RSA_PKCS1_PSS_PADDING;
+    bool pss = ctx->padding == RSA_PKCS1_PSS_PADDING;
     ERR_set_mark();
-    bool good = verifies(it, data, count, made, length, signature_salt(it));
-    bool other_salt = !good && pss && verifies(it, data, count, made, length, RSA_PSS_SALTLEN_AUTO);
+    bool good = verifies(ctx, data, count, made, length, signature_salt(ctx));
+    bool other_salt =
+        !good && pss && verifies(ctx, data, count, made, length, RSA_PSS_SALTLEN_AUTO);
     ERR_pop_to_mark();
     if (good) return true;
     if (other_salt)
         return RAISE(
-            it->provider, REASON_SIGNATURE,
+            ctx->provider, REASON_SIGNATURE,
             "by the key %s: its PSS salt has not %d bytes; set pss_salt to what the server "
             "makes, digest or max",
-            it->key->id, signature_salt(it));
-    return RAISE(it->provider, REASON_SIGNATURE,
-                 "by the key %s: is the public key that was found for it another's?", it->key->id);
+            ctx->key->id, signature_salt(ctx));
+    return RAISE(ctx->provider, REASON_SIGNATURE,
+                 "by the key %s: is the public key that was found for it another's?", ctx->key->id);
 }
 
 static int sign_data(void *given, unsigned char *into, size_t *length, size_t room,
                      const unsigned char *data, size_t count) {
     static const uint8_t none[1];
-    const signature *it = given;
-    *length = (size_t)EVP_PKEY_get_size(it->key->public);
+    const signature *ctx = given;
+    *length = (size_t)EVP_PKEY_get_size(ctx->key->public);
     if (!into) return 1;
     if (room < *length)
-        return RAISE(it->provider, REASON_PARAMETERS,
+        return RAISE(ctx->provider, REASON_PARAMETERS,
                      "the signature has %zu bytes, and room is for "
                      "%zu",
                      *length, room);
-    const char *padding = it->padding == RSA_PKCS1_PADDING ? "PKCS1_v1_5" : "PSS";
+    const char *padding = ctx->padding == RSA_PKCS1_PADDING ? "PKCS1_v1_5" : "PSS";
     if (!data) data = none;
-    if (!signature_salt_can_be(it) ||
-        !key_sign(it->key, it->hash->name, padding, data, count, into, room, length))
+    if (!signature_salt_can_be(ctx) ||
+        !key_sign(ctx->key, ctx->hash->name, padding, data, count, into, room, length))
         return 0;
-    if (is_good(it, data, count, into, *length)) return 1;
+    if (is_good(ctx, data, count, into, *length)) return 1;
     OPENSSL_cleanse(into, *length);
     return 0;
 }
 
 static int sign_data_final(void *given, unsigned char *into, size_t *length, size_t room) {
-    const signature *it = given;
-    return sign_data(given, into, length, room, it->data, it->count);
+    const signature *ctx = given;
+    return sign_data(given, into, length, room, ctx->data, ctx->count);
 }
 
 static int verify_data(void *given, const unsigned char *made, size_t length,
                        const unsigned char *data, size_t count) {
-    const signature *it = given;
-    return verifies(it, data, count, made, length, it->salt);
+    const signature *ctx = given;
+    return verifies(ctx, data, count, made, length, ctx->salt);
 }
 
 static int verify_data_final(void *given, const unsigned char *made, size_t length) {
-    const signature *it = given;
-    return verify_data(given, made, length, it->data, it->count);
+    const signature *ctx = given;
+    return verify_data(given, made, length, ctx->data, ctx->count);
 }
 
 /* Operations over a digest: there are none. */
 static int sign_init(void *given, void *key, const OSSL_PARAM params[]) {
-    const signature *it = given;
+    const signature *ctx = given;
     (void)key;
     (void)params;
-    return RAISE(it->provider, REASON_DIGEST_ALONE,
+    return RAISE(ctx->provider, REASON_DIGEST_ALONE,
                  "Sign of KMIP 1.2 takes the data itself: use EVP_DigestSign in place of "
                  "EVP_PKEY_sign");
 }

@@ -14,11 +14,11 @@ typedef struct {
 } store;
 
 static void *store_open(void *context, const char *text) {
-    store *it = OPENSSL_zalloc(sizeof *it);
-    if (!it) return NULL;
-    it->provider = context;
-    if (uri_read(it->provider, text, &it->uri)) return it;
-    OPENSSL_free(it);
+    store *ctx = OPENSSL_zalloc(sizeof *ctx);
+    if (!ctx) return NULL;
+    ctx->provider = context;
+    if (uri_read(ctx->provider, text, &ctx->uri)) return ctx;
+    OPENSSL_free(ctx);
     return NULL;
 }
 
@@ -30,13 +30,13 @@ static const OSSL_PARAM *store_settable(void *context) {
 }
 
 static int store_set(void *given, const OSSL_PARAM params[]) {
-    store *it = given;
+    store *ctx = given;
     const OSSL_PARAM *expected = OSSL_PARAM_locate_const(params, OSSL_STORE_PARAM_EXPECT);
-    return !expected || OSSL_PARAM_get_int(expected, &it->expected);
+    return !expected || OSSL_PARAM_get_int(expected, &ctx->expected);
 }
 
-static int wanted(const store *it) {
-    switch (it->expected) {
+static int wanted(const store *ctx) {
+    switch (ctx->expected) {
     case 0: return WANT_PRIVATE | WANT_PUBLIC | WANT_CERTIFICATE;
     case OSSL_STORE_INFO_PKEY: return WANT_PRIVATE;
     case OSSL_STORE_INFO_PUBKEY: return WANT_PUBLIC;
@@ -48,12 +48,12 @@ static int wanted(const store *it) {
 /* It is at its end also where nothing was found: else programs would ask again, without end. */
 static int store_load(void *given, OSSL_CALLBACK *take, void *taker, OSSL_PASSPHRASE_CALLBACK *ask,
                       void *asked) {
-    store *it = given;
+    store *ctx = given;
     object what;
     (void)ask;
     (void)asked;
-    it->done = true;
-    if (!wanted(it) || !find(it->provider, &it->uri, wanted(it), &what)) return 0;
+    ctx->done = true;
+    if (!wanted(ctx) || !find(ctx->provider, &ctx->uri, wanted(ctx), &what)) return 0;
     int taken = object_hand_over(&what, take, taker);
     object_free(&what);
     return taken;
@@ -64,9 +64,9 @@ static int store_eof(void *given) {
 }
 
 static int store_close(void *given) {
-    store *it = given;
-    uri_free(&it->uri);
-    OPENSSL_free(it);
+    store *ctx = given;
+    uri_free(&ctx->uri);
+    OPENSSL_free(ctx);
     return 1;
 }
 

@@ -26,24 +26,26 @@ static char *decoded(const char *from, size_t count) {
     return into;
 }
 
-static char **place_of(uri *it, const char *name, size_t count) {
+static char **place_of(uri *parts, const char *name, size_t count) {
     const struct {
         const char *name;
         char **at;
-    } places[] = {{"id", &it->id},
-                  {"name", &it->name},
-                  {"public-id", &it->public_id},
-                  {"public-name", &it->public_name},
-                  {"public-file", &it->public_file}};
+    } places[] = {{"id", &parts->id},
+                  {"name", &parts->name},
+                  {"public-id", &parts->public_id},
+                  {"public-name", &parts->public_name},
+                  {"public-file", &parts->public_file}};
     for (size_t i = 0; i < sizeof places / sizeof *places; i++)
         if (strlen(places[i].name) == count && memcmp(places[i].name, name, count) == 0)
             return places[i].at;
     return NULL;
 }
 
-static bool read_part(uri *it, const char *part, size_t count, bool first) {
+static bool read_part(uri *parts, const char *part, size_t count, bool first) {
     const char *equals = memchr(part, '=', count);
-    char **at = equals ? place_of(it, part, (size_t)(equals - part)) : first ? &it->any : NULL;
+    char **at = equals  ? place_of(parts, part, (size_t)(equals - part))
+                : first ? &parts->any
+                        : NULL;
     size_t skipped = equals ? (size_t)(equals - part) + 1 : 0;
     if (!at || *at || count == skipped) return false;
     *at = decoded(part + skipped, count - skipped);
@@ -51,37 +53,38 @@ static bool read_part(uri *it, const char *part, size_t count, bool first) {
 }
 
 /* Whether one object is told, and its public key by one way at most. */
-static bool is_whole(const uri *it) {
-    int objects = (it->any != NULL) + (it->id != NULL) + (it->name != NULL);
-    int publics = (it->public_id != NULL) + (it->public_name != NULL) + (it->public_file != NULL);
+static bool is_whole(const uri *parts) {
+    int objects = (parts->any != NULL) + (parts->id != NULL) + (parts->name != NULL);
+    int publics =
+        (parts->public_id != NULL) + (parts->public_name != NULL) + (parts->public_file != NULL);
     return objects == 1 && publics <= 1;
 }
 
-static bool read_parts(uri *it, const char *text) {
+static bool read_parts(uri *parts, const char *text) {
     for (bool first = true;; first = false) {
         size_t count = strcspn(text, ";");
-        if (!read_part(it, text, count, first)) return false;
-        if (!text[count]) return is_whole(it);
+        if (!read_part(parts, text, count, first)) return false;
+        if (!text[count]) return is_whole(parts);
         text += count + 1;
     }
 }
 
-bool uri_read(const provider *it, const char *text, uri *into) {
+bool uri_read(const provider *prov, const char *text, uri *into) {
     memset(into, 0, sizeof *into);
     if (strncasecmp(text, "kmip:", 5) == 0 && read_parts(into, text + 5)) return true;
     uri_free(into);
-    return RAISE(it, REASON_URI,
+    return RAISE(prov, REASON_URI,
                  "%s: it is kmip:NAME-OR-ID, kmip:id=ID or kmip:name=NAME, and then one of "
                  ";public-id=ID, ;public-name=NAME and ;public-file=PATH, with %%XX for ; = and %%",
                  text);
 }
 
-void uri_free(uri *it) {
-    OPENSSL_free(it->any);
-    OPENSSL_free(it->id);
-    OPENSSL_free(it->name);
-    OPENSSL_free(it->public_id);
-    OPENSSL_free(it->public_name);
-    OPENSSL_free(it->public_file);
-    memset(it, 0, sizeof *it);
+void uri_free(uri *parts) {
+    OPENSSL_free(parts->any);
+    OPENSSL_free(parts->id);
+    OPENSSL_free(parts->name);
+    OPENSSL_free(parts->public_id);
+    OPENSSL_free(parts->public_name);
+    OPENSSL_free(parts->public_file);
+    memset(parts, 0, sizeof *parts);
 }

@@ -54,7 +54,7 @@ REGISTERS: Dict[str, Callable[..., str]] = {
 
 def registered(settings: List[str], name: str, texts: List[str]) -> str:
     file, *given = texts or ['']
-    options = dict(it.partition('=')[::2] for it in given)
+    options = dict(word.partition('=')[::2] for word in given)
     if not set(options) <= {'usage', 'name'} | ({'kind'} if name == 'register-secret' else set()):
         raise GrammarError('%s: there is no such option' % name)
     try:

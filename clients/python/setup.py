@@ -57,7 +57,7 @@ def platform_of(tag: str) -> str:
     """The platform of a wheel, as manylinux_2_25_x86_64: that of the newest version of glibc of
     which the library takes a function (PEP 600). An installer elsewhere does not take it."""
     read = pathlib.Path(library()).read_bytes() if library() else b''
-    minors = [int(it) for it in re.findall(rb'\0GLIBC_2\.(\d+)(?:\.\d+)?(?=\0)', read)]
+    minors = [int(minor) for minor in re.findall(rb'\0GLIBC_2\.(\d+)(?:\.\d+)?(?=\0)', read)]
     if not minors or not tag.startswith('linux_'):
         return tag
     return 'manylinux_2_%d_%s' % (max([OLDEST, *minors]), tag[len('linux_'):])

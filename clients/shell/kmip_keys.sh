@@ -63,16 +63,16 @@ kmip_read_object() { # KIND FILE
 
 # Registers what a file has. The answer is {"answer":{"unique_identifier":..}}.
 kmip_register() { # private|public|certificate|secret FILE [usage=NAME,..] [name=TEXT] [kind=Seed]
-    local what=$1 file=${2-} it answer payload status=0 given='' name='' usage='' kind=Password KMIP_WORDS
+    local what=$1 file=${2-} word answer payload status=0 given='' name='' usage='' kind=Password KMIP_WORDS
     kmip_has_jq || return
-    for it in "${@:3}"; do
-        case $it in
-        name=*) name=${it#name=} given+=name ;;
-        usage=?*) usage=${it#usage=} ;;
-        kind=Password | kind=Seed) kind=${it#kind=} ;;
+    for word in "${@:3}"; do
+        case $word in
+        name=*) name=${word#name=} given+=name ;;
+        usage=?*) usage=${word#usage=} ;;
+        kind=Password | kind=Seed) kind=${word#kind=} ;;
         *) file='' ;;
         esac
-        if [[ $it == kind=* && $what != secret ]]; then file=''; fi
+        if [[ $word == kind=* && $what != secret ]]; then file=''; fi
     done
     if [[ -z $file ]]; then
         kmip_fails GrammarError "kmip register-$what FILE [usage=..] [name=..]: there is no file, or an option that is none"

@@ -98,11 +98,11 @@ if [[ -n $text ]]; then
 elif [[ -n $unproved ]]; then
     about='Computed here, by code that was compiled with no proof.'
     echo 'Compiled with no proof: a few minutes.'
-    step 'kmip_web' python3 "$top/tools/unproved_build.py" module kmip_web "$folder/kmip.ll" "$top"
+    step 'kmip_web' python3 "$top/tools/build.py" --unproved module kmip_web "$folder/kmip.ll" "$top"
 else
     about='Computed here by proved code.'
     echo "Proved: minutes over what rt ci kept here, hours from nothing. $log shows how far it is."
-    step 'kmip_web' python3 "$top/tools/proved_build.py" module kmip_web "$folder/kmip.ll" "$top"
+    step 'kmip_web' python3 "$top/tools/build.py" --proved module kmip_web "$folder/kmip.ll" "$top"
 fi
 step 'the module' module
 step 'kmip.html' python3 "$here/page.py" "$folder/kmip.wasm" "$folder/kmip.html" "$about"

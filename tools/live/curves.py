@@ -98,65 +98,65 @@ def register(payload):
 def locate(payload):
     wanted = attributes_in(payload)
     name, kind, state = name_in(wanted), number(wanted.get('Object Type')), number(wanted.get('State'))
-    return [identifier(key) for key, it in list(KEPT.items())
-            if name in (None, it.name) and kind in (None, it.kind) and state in (None, it.state)]
+    return [identifier(key) for key, kept in list(KEPT.items())
+            if name in (None, kept.name) and kind in (None, kept.kind) and state in (None, kept.state)]
 
 
-def get(it, _):
-    if it.kind == PRIVATE_KEY:
+def get(kept, _):
+    if kept.kind == PRIVATE_KEY:
         raise Refused(DENIED, 'a private key stays here')
-    if it.kind == CERTIFICATE:
-        body = [enumeration(0x42001D, X509_CERTIFICATE), octets(0x42001E, it.file.read_bytes())]
+    if kept.kind == CERTIFICATE:
+        body = [enumeration(0x42001D, X509_CERTIFICATE), octets(0x42001E, kept.file.read_bytes())]
     else:
-        der = openssl('pkey', '-pubin', '-in', it.file, '-outform', 'DER').stdout
+        der = openssl('pkey', '-pubin', '-in', kept.file, '-outform', 'DER').stdout
         body = [structure(0x420040, enumeration(0x420042, X509), structure(0x420045, octets(0x420043, der)),
                           enumeration(0x420028, ECDSA), integer(0x42002A, 256))]
-    return [enumeration(0x420057, it.kind), structure(TAGS[it.kind], *body)]
+    return [enumeration(0x420057, kept.kind), structure(TAGS[kept.kind], *body)]
 
 
-def get_attributes(it, _):
-    have = [('Object Type', enumeration(0x42000B, it.kind)), ('State', enumeration(0x42000B, it.state))]
-    if it.kind != CERTIFICATE:
-        link = OF_PUBLIC_KEY if it.kind == PRIVATE_KEY else OF_PRIVATE_KEY
+def get_attributes(kept, _):
+    have = [('Object Type', enumeration(0x42000B, kept.kind)), ('State', enumeration(0x42000B, kept.state))]
+    if kept.kind != CERTIFICATE:
+        link = OF_PUBLIC_KEY if kept.kind == PRIVATE_KEY else OF_PRIVATE_KEY
         have += [('Cryptographic Algorithm', enumeration(0x42000B, ECDSA)), ('Cryptographic Length', integer(0x42000B, 256)),
                  ('Cryptographic Domain Parameters', structure(0x42000B, enumeration(0x420075, P256))),
-                 ('Link', structure(0x42000B, enumeration(0x42004B, link), text(0x42004C, it.link)))]
+                 ('Link', structure(0x42000B, enumeration(0x42004B, link), text(0x42004C, kept.link)))]
     return [structure(0x420008, text(0x42000A, name), value) for name, value in have]
 
 
-def look_at(it, payload, usage):
+def look_at(kept, payload, usage):
     """Refuses a key that is not active or is for other uses, and parameters that are no ECDSA with SHA-256."""
     how = dict(items_in(value_of(payload, '42002B', 1) or b''))
-    if it.state != ACTIVE or not it.usage & usage:
+    if kept.state != ACTIVE or not kept.usage & usage:
         raise Refused(DENIED, 'the key is not active, or not for this use')
     asked = [number(how.get(tag)) for tag in (0x4200AE, 0x420028, 0x420038)]
     if asked not in ([ECDSA_WITH_SHA256, None, None], [None, ECDSA, SHA256]):
         raise Refused(INVALID_FIELD, 'what is asked for is neither ECDSA with SHA-256 nor ECDSA and SHA-256')
 
 
-def sign(it, payload):
-    look_at(it, payload, SIGNS)
-    made = openssl('dgst', '-sha256', '-sign', it.file, given=value_of(payload, '4200C2', 8))
+def sign(kept, payload):
+    look_at(kept, payload, SIGNS)
+    made = openssl('dgst', '-sha256', '-sign', kept.file, given=value_of(payload, '4200C2', 8))
     return [octets(0x4200C3, made.stdout)]
 
 
-def verify(it, payload):
-    look_at(it, payload, VERIFIES)
+def verify(kept, payload):
+    look_at(kept, payload, VERIFIES)
     signature = file_of(value_of(payload, '4200C3', 8))
-    done = openssl('dgst', '-sha256', '-verify', it.file, '-signature', signature, given=value_of(payload, '4200C2', 8))
+    done = openssl('dgst', '-sha256', '-verify', kept.file, '-signature', signature, given=value_of(payload, '4200C2', 8))
     return [enumeration(0x42009B, VALID if done.returncode == 0 else INVALID)]
 
 
-def activate(it, _):
-    if it.state != PRE_ACTIVE:
+def activate(kept, _):
+    if kept.state != PRE_ACTIVE:
         raise Refused(ILLEGAL, 'it is not in the Pre-Active state')
-    it.state = ACTIVE
+    kept.state = ACTIVE
     return []
 
 
-def revoke(it, payload):
+def revoke(kept, payload):
     compromised = number(value_of(payload, '420082', 5)) == KEY_COMPROMISE
-    it.state = COMPROMISED if compromised else DEACTIVATED
+    kept.state = COMPROMISED if compromised else DEACTIVATED
     return []
 
 

@@ -7,7 +7,7 @@ build_operate() {
     case $client in
     c) test_build operate ;;
     rust)
-        cp "$here/rust/operate.rs" "$run/rust/source/examples"
+        cp "$own/operate.rs" "$run/rust/source/examples"
         cargo_of_copy build --release --features openssl --example operate >"$said" 2>&1
         verdict 'the program for operations is built'
         ;;
@@ -45,7 +45,7 @@ operate() { # OPERATION ITEM..
     c) timeout -k 2 $((90 * slack)) "$work/operate" "${words[@]}" "$1" "$payload" ;;
     python)
         PYTHONPATH=$top/clients/python LIBMETSUWAN=$built/libmetsuwan.so timeout -k 2 $((90 * slack)) \
-            "$python" -B "$here/python/operate.py" "${words[@]}" "$1" "$payload"
+            "$python" -B "$own/operate.py" "${words[@]}" "$1" "$payload"
         ;;
     rust) patience=90 client_run operate "$1" "$payload" ;;
     esac >"$said" 2>&1 </dev/null

@@ -16,7 +16,6 @@ What a test waits for is told, and takes no time of its own: a busy machine chan
 last bytes, and `control` says what `held` has.
 """
 import collections
-import contextlib
 import hashlib
 import importlib
 import os
@@ -24,18 +23,18 @@ import socket
 import ssl
 import struct
 import sys
-import tempfile
 import threading
 import time
 
 import records
+from connections import by_records, by_steps, connection, context_of, finish, listen, serve_each
 from registry import (ADD_ATTRIBUTE, CREATE_KEY_PAIR, DELETE_ATTRIBUTE, FAKES, GET, MODIFY_ATTRIBUTE, PLAIN, QUERY,
-                      OWN_IDS, RNG_RETRIEVE, SIGN, fake, own_ids, plain)
+                      RNG_RETRIEVE, SIGN, fake, own_ids, plain)
 from ttlv import (FAILED, PENDING, SUCCESS, UNDONE, batch_item, date, enumeration, header, id_of, identified, identifier, item,
-                  items_of, message_of, nested, octets, operation_of, response, structure, text, value_of)
+                  items_of, nested, octets, operation_of, response, structure, text, value_of)
 
-for it in 'objects', 'curves':      # fakes of their own
-    importlib.import_module(it)
+for name in 'objects', 'curves':      # fakes of their own
+    importlib.import_module(name)
 
 # The server's certificate is that of certs.sh with this name; what it answers is good.
 CERTIFICATES = ('expired_server', 'wrong_host', 'cn_only', 'wildcard', 'of_between', 'address', 'other/server')
@@ -102,13 +101,13 @@ def held(wire, request):
     asked = value_of(request, '420094', 7) or b''
     if not asked.startswith(b'held'):
         return good(wire, request)
-    it = HELD[asked.decode()]
-    it.arrived.set()
-    it.released.wait()
+    request_held = HELD[asked.decode()]
+    request_held.arrived.set()
+    request_held.released.wait()
     try:
         wire.sendall(answer_of(request))
     finally:
-        it.answered.set()
+        request_held.answered.set()
 
 
 @plain
@@ -118,13 +117,13 @@ def control(listener):
         with wire, wire.makefile('rw') as lines:
             for line in lines:
                 what, name = line.split()
-                it = HELD[name]
+                request_held = HELD[name]
                 if what == 'release':
-                    it.released.set()
+                    request_held.released.set()
                     # A call that was given up before its request came is none to wait for.
-                    done = it.arrived.wait(5) and it.answered.wait(60)
+                    done = request_held.arrived.wait(5) and request_held.answered.wait(60)
                 else:
-                    done = it.arrived.wait(60)
+                    done = request_held.arrived.wait(60)
                 print('yes' if done else 'no', file=lines, flush=True)
     serve_each(listener, serve)
 
@@ -190,7 +189,7 @@ def batches(wire, request):
         made[:0] = [batch_answer(body)] * {b'twice': 2, b'left out': 0}.get(asked, 1)
         if asked == b'unknown':
             name = value_of(body, '420093', 8)
-            made.append(batch_answer(body.replace(octets(0x420093, name), octets(0x420093, bytes(it ^ 255 for it in name)))))
+            made.append(batch_answer(body.replace(octets(0x420093, name), octets(0x420093, bytes(byte ^ 255 for byte in name)))))
         if asked == b'failing' and value_of(request, '42000E', 5) == b'\0\0\0\2':
             break
     wire.sendall(structure(0x42007B, header(count=len(made)), *made))
@@ -263,7 +262,7 @@ class End:
     """How a connection of `ends` ends, and when."""
 
     def __init__(self):
-        self.how, self.told = 'torn', threading.Event()
+        self.how, self.is_over = 'torn', threading.Event()
 
 
 LAST_END = {}           # by the user: that of the last connection
@@ -274,7 +273,7 @@ def ends(wire, request):
     """answers one query; the vendor is how the connection of this user before it ended: `in order`, `torn`, or `none`"""
     user, how = value_of(request, '420099', 7), 'none'
     if user in LAST_END:
-        LAST_END[user].told.wait(60)
+        LAST_END[user].is_over.wait(60)
         how = LAST_END[user].how
     wire.end = LAST_END[user] = End()
     wire.sendall(response(QUERY, [text(0x42009D, how)]))
@@ -651,138 +650,6 @@ def tickets_after(wire, request):
     tickets(wire, request)
 
 
-class Together:
-    """The TLS of a server, whose bytes go when they are flushed, or before it waits for more: so all go at once."""
-
-    def __init__(self, wire, context):
-        self.wire, self.came, self.goes = wire, ssl.MemoryBIO(), ssl.MemoryBIO()
-        self.tls = context.wrap_bio(self.came, self.goes, server_side=True)
-        self.write = self.tls.write
-        self.in_steps(self.tls.do_handshake)
-
-    def in_steps(self, call, *words):
-        while True:
-            try:
-                return call(*words)
-            except ssl.SSLWantReadError:
-                self.flush()
-                piece = self.wire.recv(65536)
-                if piece:
-                    self.came.write(piece)
-                else:
-                    self.came.write_eof()
-
-    def recv(self, count):
-        return self.in_steps(self.tls.read, count)
-
-    def say_end(self):
-        with contextlib.suppress(ssl.SSLWantReadError):
-            self.tls.unwrap()
-
-    def flush(self):
-        self.wire.sendall(self.goes.read())
-
-
-def finish(wire):
-    """Ends a connection. All that still comes is read: of bytes that are unread at its end the system makes a reset."""
-    wire.shutdown(socket.SHUT_WR)
-    while wire.recv(65536):
-        pass
-
-
-def by_steps(name, context, plain):
-    """A connection of `early` or `end_after`."""
-    with plain:
-        wire = Together(plain, context)
-        if name == 'early':
-            wire.write(GOOD_QUERY)
-        wire.flush()
-        request = message_of(wire)
-        if request and FAKES[name](wire, request):
-            finish(plain)
-
-
-class Recorded:
-    """A connection whose records are made by records.py."""
-
-    def __init__(self, plain, tls, made):
-        self.recv, self.sendall, self.records = tls.recv, plain.sendall, made
-
-
-def by_records(name, certs, plain):
-    """A connection of `tickets` or `tickets_after`."""
-    with plain, tempfile.NamedTemporaryFile() as log:
-        context = context_of(certs, 'server')
-        context.num_tickets, context.minimum_version = 0, ssl.TLSVersion.TLSv1_3
-        context.keylog_filename = log.name
-        tls = Together(plain, context)
-        tls.flush()
-        with records.records_of(tls.tls, log.name) as made:
-            FAKES[name](Recorded(plain, tls, made), message_of(tls))
-
-
-class Wire(ssl.SSLSocket):
-    """A connection on which a response has the Unique Batch Item ID of its request."""
-
-    name = None
-
-    def sendall(self, data, flags=0):
-        super().sendall(identified(data, self.name), flags)
-
-
-def connection(name, context, plain):
-    with context.wrap_socket(plain, server_side=True, suppress_ragged_eofs=False) as wire:
-        if name == 'closing':
-            wire.recv(10)
-            wire.shutdown(socket.SHUT_WR)
-            time.sleep(0.3)
-            return
-        try:
-            while True:
-                request = message_of(wire)
-                wire.name = None if name in OWN_IDS else id_of(request)
-                if not request and hasattr(wire, 'end'):
-                    wire.end.how = 'in order'
-                if not request or FAKES[name](wire, request):
-                    break
-        finally:
-            if hasattr(wire, 'end'):
-                wire.end.told.set()
-        if request and wire.fileno() >= 0:
-            finish(wire)
-
-
-def serve_each(listener, serve):
-    """Has `serve` serve each connection, in a thread of its own."""
-    def quietly(wire):
-        try:
-            serve(wire)
-        except OSError:
-            pass
-
-    while True:
-        wire, _ = listener.accept()
-        threading.Thread(target=quietly, args=(wire,), daemon=True).start()
-
-
-def listen(name, serve, host='127.0.0.1'):
-    family = socket.AF_INET6 if ':' in host else socket.AF_INET
-    listener = socket.create_server((host, 0), backlog=100, family=family)
-    print(name, listener.getsockname()[1], flush=True)
-    threading.Thread(target=serve, args=(listener,), daemon=True).start()
-
-
-def context_of(certs, name):
-    context = ssl.SSLContext(ssl.PROTOCOL_TLS_SERVER)
-    context.load_cert_chain('%s/%s.pem' % (certs, name), '%s/%s.key' % (certs, name))
-    context.load_verify_locations(certs + '/ca.pem')
-    context.verify_mode = ssl.CERT_OPTIONAL
-    context.sslsocket_class = Wire
-    # So that it is known whether a connection was ended in order.
-    context.options &= ~getattr(ssl, 'OP_IGNORE_UNEXPECTED_EOF', 0)
-    return context
-
-
 def reach(certs, ports):
     with open(ports, encoding='ascii') as lines:
         port = dict(line.split() for line in lines if ' ' in line)['good']
@@ -809,13 +676,16 @@ def main():
 
     def over_tls(name, certificate):
         context = context_of(certs, certificate)
+        serve, words = connection, (name, context)
         if name == 'early':
             # In TLS 1.2 the last bytes of the handshake are the server's.
             context.maximum_version = ssl.TLSVersion.TLSv1_2
-        serve = by_steps if name in ('early', 'end_after') else connection
-        if name.startswith('tickets'):
-            return lambda listener: serve_each(listener, lambda wire: by_records(name, certs, wire))
-        return lambda listener: serve_each(listener, lambda wire: serve(name, context, wire))
+            serve, words = by_steps, (name, context, GOOD_QUERY)
+        elif name == 'end_after':
+            serve, words = by_steps, (name, context, b'')
+        elif name.startswith('tickets'):
+            serve, words = by_records, (name, certs)
+        return lambda listener: serve_each(listener, lambda wire: serve(wire, *words))
 
     for name in FAKES:
         listen(name, over_tls(name, 'server'))

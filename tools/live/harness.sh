@@ -1,13 +1,20 @@
 # shellcheck shell=bash disable=SC2030,SC2031
-# What the cases of the live test stand on; tools/live.sh and tools/check_clients.sh source it.
+# What the cases of the live test stand on; tools/live.sh and tools/check_clients.sh source it, which differ in the cases that
+# they run.
 #
-# A CASE FILE is a file of bash, each/TOPIC.sh for every client but openssl, the provider, or CLIENT/TOPIC.sh for one, where
-# CLIENT is shell, c, python, rust or openssl. It is found by its place and needs no other entry. A line
-# `# needs: server` says that it wants PyKMIP, `# needs: library` that a case of the shell wants the libraries too; without
-# one it is run with no server installed, against the fakes. It runs in a shell of its own, in a folder of its own, beside
-# other case files, and finds
+# A CASE FILE is a file of bash, which is found by its place and needs no other entry:
+#
+#   tools/live/each/TOPIC.sh             for every client but openssl, the provider
+#   clients/CLIENT/tests/live/TOPIC.sh   for one, where CLIENT is shell, c, python, rust or openssl
+#   clients/tests/live/TOPIC.sh          for what the clients are built and packed by, and the encoder; with the shell's
+#   tools/live/scripts/TOPIC.sh          for the scripts and documents of the repository; with the shell's
+#
+# A line `# needs: server` says that it wants PyKMIP, `# needs: library` that a case of the shell wants the libraries too;
+# without one it is run with no server installed, against the fakes. It runs in a shell of its own, in a folder of its own,
+# beside other case files, and finds
 #
 #   $client $top $built      the client, the repository, the folder that clients/build.sh made
+#   $own                     the folder clients/CLIENT/tests/live
 #   $certs $work             the certificates of certs.sh, and an empty folder for this file
 #   $host $port $certificate $key $authority     what call_is and client_run connect with: alice, at localhost. $port is
 #                            that of PyKMIP where the file needs it
@@ -34,7 +41,7 @@
 #
 # open.txt has the checks that are known to fail, since what they try is not made yet.
 #
-# CLIENT/client.sh says how a client is built and run: it has the functions
+# client.sh in $own says how a client is built and run: it has the functions
 #
 #   client_needs             prints what is missing to build it, as the names of Debian packages
 #   client_build             builds it in $run/$client, from $built; where it fails, what it wrote is shown. A compiler is
@@ -43,7 +50,9 @@
 
 here=$top/tools/live
 clients=(shell c python rust openssl)
+chosen=()
 topics=()
+built=''
 slack=10
 python=${PYTHON:-/usr/bin/python3}
 [[ -x $python ]] || python=python3
@@ -53,13 +62,57 @@ give_up() { # TEXT
     exit 1
 }
 
+usage() {
+    sed -n "${usage_at:-4}s/^# */usage: /p" "$0" >&2
+    exit 2
+}
+
+# The words of a script: those that all have, and its own, which its function `own_words` takes. That leaves in `took` how
+# many these were.
+read_words() { # WORD..
+    local took who
+    while (($#)); do
+        took=2
+        case $1 in
+        --help) sed -n '2,/^# shellcheck/{/shellcheck/d;s/^# \{0,1\}//p}' "$0" && exit ;;
+        --built | --client | --topic)
+            (($# > 1)) || usage
+            case $1 in
+            --built) built=$(cd "$2" && pwd) || exit 2 ;;
+            --client) chosen+=("$2") ;;
+            --topic) topics+=("$2") ;;
+            esac
+            ;;
+        *) own_words "$@" || usage ;;
+        esac
+        shift "$took"
+    done
+    ((${#chosen[@]} == 0)) || clients=("${chosen[@]}")
+    for who in "${clients[@]}"; do [[ -d $(folder_of "$who") ]] || give_up "there is no client $who"; done
+}
+
+folder_of() { # CLIENT: that of its case files
+    printf '%s\n' "$top/clients/$1/tests/live"
+}
+
+# The folder of the run, in $run, which is removed at the end; where `keep` is set, it is left and said.
+make_run() { # NAME
+    run=$(mktemp -d -t "kmip-$1-XXXXXX") || return
+    trap finish EXIT
+    trap 'exit 130' INT TERM
+}
+finish() {
+    if [[ -n ${keep-} ]]; then echo "kept: $run"; else rm -rf --one-file-system "$run"; fi
+}
+
 # What stop_all ends: processes by their number, and groups of processes by that of their first, with all that they began.
 started=()
 groups=()
 stop_all() {
     local process
     for process in ${started[@]+"${started[@]}"}; do kill "$process" 2>/dev/null; done
-    for process in ${groups[@]+"${groups[@]}"}; do kill -- "-$process" 2>/dev/null; done
+    # (a job may have been begun, and not have come to be one of `groups`)
+    for process in ${groups[@]+"${groups[@]}"} $(jobs -p); do kill -- "-$process" 2>/dev/null; done
 }
 
 verdict() { # WHAT
@@ -167,6 +220,16 @@ by_shell() { # CALL WORD..
     "$top/clients/shell/call.sh" "$host" "$port" "$certificate" "$key" "$authority" "$@"
 }
 
+# The certificates and the fake servers, and an environment without a user's settings.
+begin_servers() {
+    unset KMIP_USER KMIP_PASSWORD KMIP_LIMIT KMIP_RECORD KMIP_TIMEOUT KMIP_PASSPHRASE KMIP_PASSPHRASE_FILE
+    certs=$run/certs
+    "$here/certs.sh" "$certs" >"$run/certs.log" 2>&1 && start_fakes && return
+    echo 'FAILED  the certificates are not made, or the fake servers are not reached at localhost'
+    tail -5 "$run/certs.log" | sed 's/^/        /'
+    return 1
+}
+
 start_fakes() {
     "$python" -B "$here/fakes.py" "$certs" >"$run/fakes" 2>"$run/fakes.err" &
     started+=($!)
@@ -178,7 +241,7 @@ start_fakes() {
 # One case file for one client, in a shell of its own; what it wrote is in $run/NUMBER.out.
 run_case() { # NUMBER CLIENT FILE
     (
-        client=$2 work=$run/$1 said=$run/$1/said elapsed=0
+        client=$2 own=$(folder_of "$2") work=$run/$1 said=$run/$1/said elapsed=0
         host=localhost port=${server_port-} certificate=$certs/client.pem key=$certs/client.key authority=$certs/ca.pem
         mkdir -p "$work"
         cd "$work" || exit
@@ -186,9 +249,9 @@ run_case() { # NUMBER CLIENT FILE
         started=() groups=()
         trap stop_all EXIT
         trap 'exit 130' INT TERM
-        . "$here/$client/client.sh"
+        . "$own/client.sh"
         printf -- '--      %s: %s\n' "$client" "$3"
-        . "$here/$3"
+        . "$top/$3"
         printf 'ended   %s\n' "$3"
     ) >"$run/$1.raw" 2>&1 </dev/null
     grep -q '^ended ' "$run/$1.raw" || printf 'FAILED  %s: %s broke off\n' "$2" "$3" >>"$run/$1.raw"
@@ -214,15 +277,16 @@ without_open() {
 # The case files of a client that want the server, those that don't, or of the latter those that want the libraries in
 # $built, one a line. Where there are no libraries, those are none of the others.
 cases_of() { # CLIENT server|fakes|library
-    local file needs files=("$here/$1"/*.sh)
+    local file needs files=("$(folder_of "$1")"/*.sh)
     if [[ $1 != openssl ]]; then files=("$here"/each/*.sh "${files[@]}"); fi
+    if [[ $1 == shell ]]; then files+=("$top"/clients/tests/live/*.sh "$here"/scripts/*.sh); fi
     for file in "${files[@]}"; do
         [[ -e $file && ${file##*/} != client.sh ]] || continue
         needs=fakes
         if grep -q '^# needs: server' "$file"; then needs=server; fi
         if grep -q '^# needs: library' "$file" && [[ $2 == library || ! -e $built/libmetsuwan.a ]]; then needs=library; fi
         [[ $needs == "$2" ]] || continue
-        file=${file#"$here/"}
+        file=${file#"$top/"}
         if ((${#topics[@]} == 0)) || [[ " ${topics[*]} " == *" $(basename "$file" .sh) "* ]]; then printf '%s\n' "$file"; fi
     done
 }
@@ -323,14 +387,14 @@ run_again() { # "CLIENT FILE"
 build_clients() {
     local client missing able=() limit=() status
     for client in "${clients[@]}"; do
-        missing=$(. "$here/$client/client.sh" && client_needs)
+        missing=$(. "$(folder_of "$client")/client.sh" && client_needs)
         if [[ -n $missing ]]; then
             printf 'skipped %s: there is no %s\n' "$client" "${missing//$'\n'/, no }"
             continue
         fi
         mkdir -p "$run/$client"
         if [[ -n ${until-} ]]; then limit=(timeout $((until + 20 > SECONDS ? until + 20 - SECONDS : 1))); fi
-        (. "$here/$client/client.sh" && client_build) >"$run/$client/build.log" 2>&1
+        (. "$(folder_of "$client")/client.sh" && client_build) >"$run/$client/build.log" 2>&1
         status=$?
         if ((status == 0)); then
             able+=("$client")
@@ -351,7 +415,7 @@ build_clients() {
 # end, as by a variable that is not set, has failed; so has a client that passed fewer checks than `least` says, unless it was
 # skipped, in part at least, for want of a tool, of time or of memory.
 count() { # FUNCTION
-    local passed failed statuses it
+    local passed failed statuses bound
     local excuse='(there is no |no temporary folder|.*(no time is left|for want of time|most likely for memory|is not built))'
     (
         started=() groups=()
@@ -364,10 +428,10 @@ count() { # FUNCTION
     if [[ ! -e $run/ended || ${statuses[*]} != '0 0' ]]; then
         printf 'FAILED  %s broke off: status %s\n' "$1" "${statuses[*]}" | tee -a "$run/log"
     fi
-    for it in ${least[@]+"${least[@]}"}; do
-        passed=$(grep -c "^ok  *${it%=*}: " "$run/log")
-        if ((passed < ${it#*=})) && ! grep -qE "^skipped (${it%=*}|all|the clients[^:]*): $excuse" "$run/log"; then
-            printf 'FAILED  %s: %d checks have passed, and at least %d should\n' "${it%=*}" "$passed" "${it#*=}" |
+    for bound in ${least[@]+"${least[@]}"}; do
+        passed=$(grep -c "^ok  *${bound%=*}: " "$run/log")
+        if ((passed < ${bound#*=})) && ! grep -qE "^skipped (${bound%=*}|all|the clients[^:]*): $excuse" "$run/log"; then
+            printf 'FAILED  %s: %d checks have passed, and at least %d should\n' "${bound%=*}" "$passed" "${bound#*=}" |
                 tee -a "$run/log"
         fi
     done

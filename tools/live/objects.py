@@ -1,6 +1,7 @@
 """Fake servers that answer with objects: those of certs.sh, those that were registered, and keys by their parts."""
 import sys
 
+from der import contents_in
 from registry import GET, GET_ATTRIBUTES, REGISTER, fake
 from ttlv import FAILED, enumeration, identifier, integer, item, octets, operation_of, response, structure, text, value_of
 
@@ -57,17 +58,6 @@ def keeper(wire, request):
     return wire.sendall(response(GET, [item(0x420057, 5, kind), identifier(asked), body]))
 
 
-def numbers_of(der):
-    """The numbers that a sequence of DER has."""
-    made, at = [], 4 if der[1] == 0x82 else 3
-    while at < len(der):
-        long = der[at + 1] - 0x80 if der[at + 1] > 0x80 else 0
-        length = int.from_bytes(der[at + 2:at + 2 + long], 'big') if long else der[at + 1]
-        made.append(der[at + 2 + long:at + 2 + long + length])
-        at += 2 + long + length
-    return made
-
-
 # KMIP's tags of the numbers of a private key of RSA, in the order of PKCS#1.
 RSA_TAGS = (0x420052, 0x42006C, 0x420063, 0x42005E, 0x420071, 0x420060, 0x420061, 0x420027)
 # The base point of P-256 (SEC 2, 2.4.2): the public key whose private one is 1.
@@ -82,7 +72,7 @@ def parts_of(name):
     if name == 'PrivateKey.EC':
         return 0x0E, [enumeration(0x420075, 7), item(0x42002E, 4, bytes(7) + b'\1')], 6
     with open('%s/objects/%s.PKCS1.der' % (sys.argv[1], name.split('.', maxsplit=1)[0]), 'rb') as file:
-        numbers = numbers_of(file.read())
+        numbers = contents_in(file.read())
     if name == 'PublicKey.RSA':
         tags, form = RSA_TAGS[:2], 0x0B
     else:

@@ -63,38 +63,40 @@ def nested(levels):
     return made
 
 
-def operation_of(request):
-    at = request.index(bytes.fromhex('42005C0500000004')) + 8
-    return int.from_bytes(request[at:at + 4], 'big')
+def item_at(data, at=0):
+    """The tag, the type and the value of the item that begins there, and where the next one begins."""
+    end = at + 8 + int.from_bytes(data[at + 4:at + 8], 'big')
+    return int.from_bytes(data[at:at + 3], 'big'), data[at + 3], data[at + 8:end], end + (at - end) % 8
+
+
+def typed_items_in(contents):
+    """The tag, the type and the value of each item of these contents of a structure."""
+    made, at = [], 0
+    while at + 8 <= len(contents):
+        tag, kind, value, at = item_at(contents, at)
+        made.append((tag, kind, value))
+    return made
+
+
+def items_in(contents):
+    """The tag and the value of each item of these contents of a structure."""
+    return [(tag, value) for tag, _, value in typed_items_in(contents)]
 
 
 def value_of(request, tag, kind):
     """The first value with this tag (6 hex digits) and type in a request, or None."""
     at = request.find(bytes.fromhex(tag) + bytes([kind]))
-    if at < 0:
-        return None
-    length = int.from_bytes(request[at + 4:at + 8], 'big')
-    return request[at + 8:at + 8 + length]
+    return None if at < 0 else item_at(request, at)[2]
 
 
-def items_in(contents):
-    """The tag and the value of each item of these contents of a structure."""
-    made, at = [], 0
-    while at + 8 <= len(contents):
-        length = int.from_bytes(contents[at + 4:at + 8], 'big')
-        made.append((int.from_bytes(contents[at:at + 3], 'big'), contents[at + 8:at + 8 + length]))
-        at += 8 + length + -length % 8
-    return made
+def operation_of(request):
+    return int.from_bytes(value_of(request, '42005C', 5), 'big')
 
 
 def items_of(request):
     """The batch items of a request, each as its contents."""
-    at, made = request.find(bytes.fromhex('42000F01')), []
-    while 0 <= at < len(request):
-        length = int.from_bytes(request[at + 4:at + 8], 'big')
-        made.append(request[at + 8:at + 8 + length])
-        at += 8 + length
-    return made
+    at = request.find(bytes.fromhex('42000F01'))
+    return [] if at < 0 else [value for _, value in items_in(request[at:])]
 
 
 def id_of(request):
@@ -106,26 +108,25 @@ def id_of(request):
 def identified(message, name):
     """A response with this Unique Batch Item ID in each batch item, behind its operation (KMIP 1.0, 6.4 and 7.2). Where the
     name is None, or it is no response, it is as it was."""
-    if name is None or message[:4] != bytes.fromhex('42007B01') or len(message) != 8 + int.from_bytes(message[4:8], 'big'):
+    if name is None or message[:4] != bytes.fromhex('42007B01') or len(message) < 8 or item_at(message)[3] != len(message):
         return message
-    made, at = [], 8
-    while at < len(message):
-        length = int.from_bytes(message[at + 4:at + 8], 'big')
-        whole = message[at:at + 8 + length + -length % 8]
-        at += len(whole)
-        if whole[:4] == bytes.fromhex('42000F01'):
-            front = 24 if whole[8:11] == bytes.fromhex('42005C') else 8
-            whole = structure(0x42000F, whole[8:front], octets(0x420093, name), whole[front:])
-        made.append(whole)
+    made = []
+    for tag, kind, value in typed_items_in(message[8:]):
+        if (tag, kind) == (0x42000F, 1):
+            front = 16 if value[:3] == bytes.fromhex('42005C') else 0
+            value = value[:front] + octets(0x420093, name) + value[front:]
+        made.append(item(tag, kind, value))
     return structure(0x42007B, *made)
 
 
 def message_of(wire):
     """One message that came, or no bytes at the end."""
-    got = b''
-    while len(got) < 8 or len(got) < 8 + int.from_bytes(got[4:8], 'big'):
-        piece = wire.recv((8 if len(got) < 8 else 8 + int.from_bytes(got[4:8], 'big')) - len(got))
+    got, wanted = b'', 8
+    while len(got) < wanted:
+        piece = wire.recv(wanted - len(got))
         if not piece:
             return b''
         got += piece
+        if len(got) == 8:
+            wanted = item_at(got)[3]
     return got

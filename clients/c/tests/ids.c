@@ -79,17 +79,17 @@ static void no_random(kmip_client *client) {
           "the connection is closed");
 }
 
-static char told[4000];
+static char kept_line[4000];
 
-static void tell(void *data, const char *line, size_t length) {
+static void keep_line(void *data, const char *line, size_t length) {
     (void)data, (void)length;
-    snprintf(told, sizeof told, "%s", line);
+    snprintf(kept_line, sizeof kept_line, "%s", line);
 }
 
 /* Whether the record has these IDs, in this order: of the request, and of the response, which has
    the last item first. */
 static bool recorded(const char *const *ids, size_t count) {
-    const char *at = told;
+    const char *at = kept_line;
     for (size_t i = 0; at && i < count; i++) {
         at = strstr(at, "4200930800000008");
         if (at && strncmp(at + 16, ids[i], 16) != 0) at = NULL;
@@ -102,7 +102,7 @@ static bool recorded(const char *const *ids, size_t count) {
 static void of_batch(kmip_settings settings) {
     static const char *const last[] = {"FFFFFFFFFFFFFFFF", "0000000000000000", "0000000000000001",
                                        "0000000000000001", "0000000000000000", "FFFFFFFFFFFFFFFF"};
-    settings.record = tell;
+    settings.record = keep_line;
     kmip_client *client = opened(&settings);
     kmip_batch *batch = kmip_batch_new(client, KMIP_ON_ERROR_CONTINUE);
     for (int i = 0; i < 3; i++)

@@ -185,38 +185,38 @@ static void is_alice(const kmip_settings *settings, const char *what) {
 
 static void contexts(const kmip_settings *settings) {
     SSL_CTX *context = context_of(settings);
-    kmip_settings it = *settings;
-    it.context = context;
+    kmip_settings changed = *settings;
+    changed.context = context;
     kmip_client *client = NULL;
     char error[300];
-    check(kmip_connect(&it, &client, error, sizeof error) == KMIP_CALL_GRAMMAR && !client,
+    check(kmip_connect(&changed, &client, error, sizeof error) == KMIP_CALL_GRAMMAR && !client,
           "a context with a certificate beside it is refused");
     check_text(error,
                "{\"error\":\"ConfigurationError\",\"text\":\"certificate, key, authority, "
                "passphrase and library are those of context\"}",
                "and why");
-    it.certificate = it.key = it.authority = NULL;
-    is_alice(&it, "the certificate is that of the caller's context");
+    changed.certificate = changed.key = changed.authority = NULL;
+    is_alice(&changed, "the certificate is that of the caller's context");
     check(SSL_CTX_get_verify_mode(context) == SSL_VERIFY_NONE, "which is not changed");
-    is_alice(&it, "it may be taken again");
+    is_alice(&changed, "it may be taken again");
     SSL_CTX_free(context);
 #if OPENSSL_VERSION_NUMBER >= 0x30000000L
-    it = *settings;
-    it.library = OSSL_LIB_CTX_new();
-    is_alice(&it, "a connection in another library context");
-    OSSL_LIB_CTX_free(it.library);
+    changed = *settings;
+    changed.library = OSSL_LIB_CTX_new();
+    is_alice(&changed, "a connection in another library context");
+    OSSL_LIB_CTX_free(changed.library);
 #endif
 }
 
 /* A context that verifies nobody is none by which a stranger is taken for the server. */
 static void strangers(const kmip_settings *settings, const char *wanted) {
     SSL_CTX *context = context_of(settings);
-    kmip_settings it = *settings;
-    it.context = context;
-    it.certificate = it.key = it.authority = NULL;
+    kmip_settings changed = *settings;
+    changed.context = context;
+    changed.certificate = changed.key = changed.authority = NULL;
     kmip_client *client = NULL;
     char error[300];
-    check(kmip_connect(&it, &client, error, sizeof error) == KMIP_LOST && !client,
+    check(kmip_connect(&changed, &client, error, sizeof error) == KMIP_LOST && !client,
           "a context that verifies nobody does not let a stranger in");
     check(strstr(error, wanted) != NULL, "and why is said");
     SSL_CTX_free(context);
@@ -238,16 +238,16 @@ static void sizes(const kmip_settings *settings) {
     };
     for (size_t i = 0; i < sizeof rows / sizeof *rows; i++) {
         size_t room = rows[i].size < sizeof(size_t) ? sizeof(size_t) : rows[i].size;
-        void *it = calloc(1, room); /* not a byte more: it is read to its end and no further */
+        void *place = calloc(1, room); /* not a byte more: it is read to its end and no further */
         kmip_client *client = NULL;
-        if (!it) exit(1);
-        memcpy(it, settings, room < sizeof *settings ? room : sizeof *settings);
-        memcpy(it, &rows[i].size, sizeof rows[i].size);
-        check(kmip_connect(it, &client, NULL, 0) == rows[i].status,
+        if (!place) exit(1);
+        memcpy(place, settings, room < sizeof *settings ? room : sizeof *settings);
+        memcpy(place, &rows[i].size, sizeof rows[i].size);
+        check(kmip_connect(place, &client, NULL, 0) == rows[i].status,
               "settings of this and of an older version are taken, and no others");
         check(!client == (rows[i].status != KMIP_ANSWERED), "as the client says");
         kmip_close(client);
-        free(it);
+        free(place);
     }
 }
 

@@ -13,21 +13,21 @@ int getaddrinfo(const char *host, const char *port, const struct addrinfo *hints
     (void)host;
     if (hints->ai_flags & AI_NUMERICHOST) return EAI_NONAME;
     struct sockaddr_in *at = calloc(1, sizeof *at);
-    struct addrinfo *it = calloc(1, sizeof *it);
-    if (!at || !it) exit(1);
+    struct addrinfo *address = calloc(1, sizeof *address);
+    if (!at || !address) exit(1);
     at->sin_family = AF_INET;
     at->sin_port = htons((uint16_t)atoi(port));
     at->sin_addr.s_addr = htonl(INADDR_LOOPBACK);
-    it->ai_family = AF_INET;
-    it->ai_addr = (struct sockaddr *)at;
-    it->ai_addrlen = sizeof *at;
-    *found = it;
+    address->ai_family = AF_INET;
+    address->ai_addr = (struct sockaddr *)at;
+    address->ai_addrlen = sizeof *at;
+    *found = address;
     return 0;
 }
 
-void freeaddrinfo(struct addrinfo *it) {
-    free(it->ai_addr);
-    free(it);
+void freeaddrinfo(struct addrinfo *address) {
+    free(address->ai_addr);
+    free(address);
 }
 
 static void is_taken(kmip_settings settings, const char *host) {

@@ -16,26 +16,26 @@ static struct {
     int status;
     double seconds;
     char operation[40], text[2000], all[20000];
-} told;
+} seen;
 
 static void keep(void *data, const kmip_event *event) {
-    check(data == &told && event->size == sizeof *event, "the log is called with what is its own");
-    told.calls += event->what == KMIP_EVENT_CALL;
-    told.repeated += event->what == KMIP_EVENT_REPEATED;
-    told.reopened += event->what == KMIP_EVENT_REOPENED;
-    told.status = event->status;
-    told.seconds = event->seconds;
-    snprintf(told.operation, sizeof told.operation, "%s", event->operation);
-    snprintf(told.text, sizeof told.text, "%s", event->text);
-    size_t length = strlen(told.all);
-    snprintf(told.all + length, sizeof told.all - length, "%s\n", event->text);
+    check(data == &seen && event->size == sizeof *event, "the log is called with what is its own");
+    seen.calls += event->what == KMIP_EVENT_CALL;
+    seen.repeated += event->what == KMIP_EVENT_REPEATED;
+    seen.reopened += event->what == KMIP_EVENT_REOPENED;
+    seen.status = event->status;
+    seen.seconds = event->seconds;
+    snprintf(seen.operation, sizeof seen.operation, "%s", event->operation);
+    snprintf(seen.text, sizeof seen.text, "%s", event->text);
+    size_t length = strlen(seen.all);
+    snprintf(seen.all + length, sizeof seen.all - length, "%s\n", event->text);
 }
 
 static kmip_settings logged(kmip_settings settings, const char *user) {
-    memset(&told, 0, sizeof told);
+    memset(&seen, 0, sizeof seen);
     settings.reconnect = true;
     settings.log = keep;
-    settings.log_data = &told;
+    settings.log_data = &seen;
     settings.user = user;
     settings.password = user ? "" : NULL;
     return settings;
@@ -49,18 +49,18 @@ static bool activates(kmip_client *client) {
 static void nothing_sent(kmip_settings settings) {
     settings = logged(settings, NULL);
     kmip_client *client = opened(&settings);
-    check(activates(client) && told.reopened == 0, "a call on the first connection");
+    check(activates(client) && seen.reopened == 0, "a call on the first connection");
     check(activates(client) && activates(client), "one that was not sent is made again");
-    check(told.reopened == 2 && told.repeated == 2 && told.calls == 3, "which the log is told");
-    check(strstr(told.all, "end of input; nothing was sent: the call is made again\n") != NULL,
+    check(seen.reopened == 2 && seen.repeated == 2 && seen.calls == 3, "which the log is told");
+    check(strstr(seen.all, "end of input; nothing was sent: the call is made again\n") != NULL,
           "with the reason");
-    check(strstr(told.all, ": the connection was lost, and is opened again\n") != NULL, "and how");
+    check(strstr(seen.all, ": the connection was lost, and is opened again\n") != NULL, "and how");
     kmip_batch *batch = kmip_batch_new(client, KMIP_ON_ERROR_CONTINUE);
     check(kmip_batch_call(batch, "activate", "k", NULL) == KMIP_ANSWERED &&
-              kmip_batch_send(batch) == KMIP_LOST && told.reopened == 3,
+              kmip_batch_send(batch) == KMIP_LOST && seen.reopened == 3,
           "so is a batch, of which this server knows nothing");
     kmip_batch_free(batch);
-    check(activates(client) && told.reopened == 4 && told.repeated == 3,
+    check(activates(client) && seen.reopened == 4 && seen.repeated == 3,
           "a lost connection is opened again for the next call");
     kmip_close(client);
     settings.reconnect = false;
@@ -77,26 +77,26 @@ static void came(kmip_client *client, const char *count, const char *what) {
 
 /* The first request of each user is lost after it was sent. */
 static void sent(const kmip_settings *settings) {
-    kmip_settings it = logged(*settings, "C changeless");
-    kmip_client *client = opened(&it);
-    check(kmip_call(client, "sign", "k", "78", NULL) == KMIP_ANSWERED && told.repeated == 1,
+    kmip_settings changed = logged(*settings, "C changeless");
+    kmip_client *client = opened(&changed);
+    check(kmip_call(client, "sign", "k", "78", NULL) == KMIP_ANSWERED && seen.repeated == 1,
           "what changes nothing is made again");
     came(client, "3", "once");
     kmip_close(client);
-    it = logged(*settings, "C by operation");
-    client = opened(&it);
+    changed = logged(*settings, "C by operation");
+    client = opened(&changed);
     check(kmip_operation(client, "MAC", "1.2", IDENTIFIER) == KMIP_ANSWERED, "by its operation");
     came(client, "3", "too");
     kmip_close(client);
-    it = logged(*settings, "C changing");
-    client = opened(&it);
+    changed = logged(*settings, "C changing");
+    client = opened(&changed);
     check(kmip_call(client, "activate", "k", NULL) == KMIP_LOST && kmip_was_sent(client) &&
-              kmip_error_kind(client) == KMIP_KIND_READ && told.repeated == 0,
+              kmip_error_kind(client) == KMIP_KIND_READ && seen.repeated == 0,
           "what may have been done is not");
     came(client, "2", "but the next call has a connection");
     kmip_close(client);
-    it = logged(*settings, "C archive");
-    client = opened(&it);
+    changed = logged(*settings, "C archive");
+    client = opened(&changed);
     check(kmip_operation(client, "Archive", "1.2", IDENTIFIER) == KMIP_LOST, "nor by operation");
     came(client, "2", "and goes on");
     kmip_close(client);
@@ -106,11 +106,11 @@ static void sent(const kmip_settings *settings) {
 static void once(kmip_settings settings) {
     settings = logged(settings, NULL);
     kmip_client *client = opened(&settings);
-    check(kmip_call(client, "query", NULL) == KMIP_LOST && told.repeated == 1 &&
+    check(kmip_call(client, "query", NULL) == KMIP_LOST && seen.repeated == 1 &&
               kmip_was_sent(client) && kmip_error_kind(client) == KMIP_KIND_READ,
           "a call is made again once");
-    check(told.calls == 1 && told.status == KMIP_LOST &&
-              strstr(told.text, ": query: ResponseReadError, ") != NULL,
+    check(seen.calls == 1 && seen.status == KMIP_LOST &&
+              strstr(seen.text, ": query: ResponseReadError, ") != NULL,
           "and its end is told");
     kmip_close(client);
 }
@@ -122,9 +122,9 @@ static void late(kmip_settings settings) {
     for (settings.seconds = 2; !client && settings.seconds < 100; settings.seconds *= 5)
         client = kmip_open(&settings, NULL, 0);
     if (!client) exit(1);
-    check(kmip_call(client, "query", NULL) == KMIP_LOST && told.repeated == 0 && told.reopened == 0,
+    check(kmip_call(client, "query", NULL) == KMIP_LOST && seen.repeated == 0 && seen.reopened == 0,
           "a call whose time is over is not made again");
-    check(told.calls == 1 && told.seconds >= 1, "its time is told");
+    check(seen.calls == 1 && seen.seconds >= 1, "its time is told");
     kmip_close(client);
 }
 
@@ -136,7 +136,7 @@ static void forks(kmip_settings settings) {
     pid_t child = fork();
     if (child == 0) {
         bool lost = kmip_call(client, "query", NULL) == KMIP_LOST && !kmip_was_sent(client) &&
-                    kmip_call(client, "query", NULL) == KMIP_LOST && told.reopened == 0;
+                    kmip_call(client, "query", NULL) == KMIP_LOST && seen.reopened == 0;
         kmip_close(client);
         _exit(lost ? 0 : 1);
     }
@@ -155,28 +155,28 @@ static void log_of_calls(kmip_settings settings) {
     settings.password = "geheim";
     kmip_client *client = opened(&settings);
     check(kmip_call(client, "sign", "the key", "7468652064617461", NULL) == KMIP_ANSWERED &&
-              strcmp(told.operation, "sign") == 0 && told.status == KMIP_ANSWERED &&
-              told.seconds > 0 && told.seconds < LONG_WAIT,
+              strcmp(seen.operation, "sign") == 0 && seen.status == KMIP_ANSWERED &&
+              seen.seconds > 0 && seen.seconds < LONG_WAIT,
           "a call is told by its name, its status and its time");
-    check(strstr(told.text, ": sign: status 0, ") && strstr(told.text, " bytes sent, ") &&
-              strstr(told.text, " ms") && strncmp(told.text, "localhost:", 10) == 0,
+    check(strstr(seen.text, ": sign: status 0, ") && strstr(seen.text, " bytes sent, ") &&
+              strstr(seen.text, " ms") && strncmp(seen.text, "localhost:", 10) == 0,
           "and in words");
     check(kmip_operation(client, "Encrypt", "1.2", IDENTIFIER) == KMIP_ANSWERED &&
-              strcmp(told.operation, "Encrypt") == 0,
+              strcmp(seen.operation, "Encrypt") == 0,
           "so is an operation");
     kmip_batch *batch = kmip_batch_new(client, KMIP_ON_ERROR_CONTINUE);
     check(kmip_batch_call(batch, "query", NULL) == KMIP_ANSWERED &&
               kmip_batch_operation(batch, "Encrypt", "1.2", IDENTIFIER) == KMIP_ANSWERED &&
-              told.calls == 2,
+              seen.calls == 2,
           "what was not sent is not told");
-    check(kmip_batch_send(batch) == KMIP_LOST && strcmp(told.operation, "batch") == 0 &&
-              strstr(told.text, ": a batch of 2: InternalError, "),
+    check(kmip_batch_send(batch) == KMIP_LOST && strcmp(seen.operation, "batch") == 0 &&
+              strstr(seen.text, ": a batch of 2: InternalError, "),
           "a batch is told");
     kmip_batch_free(batch);
-    check(kmip_call(client, "sign the key", NULL) == KMIP_CALL_GRAMMAR && told.calls == 3,
+    check(kmip_call(client, "sign the key", NULL) == KMIP_CALL_GRAMMAR && seen.calls == 3,
           "what is no call is not");
     for (size_t i = 0; i < sizeof secrets / sizeof *secrets; i++)
-        check(strstr(told.all, secrets[i]) == NULL, "no value of it is told");
+        check(strstr(seen.all, secrets[i]) == NULL, "no value of it is told");
     kmip_close(client);
 }
 

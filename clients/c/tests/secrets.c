@@ -15,22 +15,22 @@ typedef struct {
     size_t length;
 } secret;
 
-static void turn(secret *it, const char *name, const void *bytes, size_t length) {
-    it->name = name;
-    it->length = length < sizeof it->turned ? length : sizeof it->turned;
-    for (size_t i = 0; i < it->length; i++)
-        it->turned[i] = (uint8_t) ~((const uint8_t *)bytes)[i];
+static void turn(secret *one, const char *name, const void *bytes, size_t length) {
+    one->name = name;
+    one->length = length < sizeof one->turned ? length : sizeof one->turned;
+    for (size_t i = 0; i < one->length; i++)
+        one->turned[i] = (uint8_t) ~((const uint8_t *)bytes)[i];
 }
 
-static bool is_at(const secret *it, const uint8_t *at) {
-    for (size_t i = 0; i < it->length; i++)
-        if ((at[i] ^ it->turned[i]) != 0xFF) return false;
+static bool is_at(const secret *one, const uint8_t *at) {
+    for (size_t i = 0; i < one->length; i++)
+        if ((at[i] ^ one->turned[i]) != 0xFF) return false;
     return true;
 }
 
 /* How often a secret stands in the memory that can be written, but for what stands after `from`:
    the buffers of this test. */
-static long count(const secret *it, const uint8_t *mine, size_t mine_len) {
+static long count(const secret *one, const uint8_t *mine, size_t mine_len) {
     FILE *maps = fopen("/proc/self/maps", "r");
     char line[400], allowed[8];
     unsigned long long from, to;
@@ -38,18 +38,18 @@ static long count(const secret *it, const uint8_t *mine, size_t mine_len) {
     while (maps && fgets(line, sizeof line, maps)) {
         if (sscanf(line, "%llx-%llx %7s", &from, &to, allowed) != 3) continue;
         if (strncmp(allowed, "rw", 2) != 0 || strstr(line, "[vvar]")) continue;
-        const uint8_t *end = (const uint8_t *)(uintptr_t)to - it->length;
+        const uint8_t *end = (const uint8_t *)(uintptr_t)to - one->length;
         for (const uint8_t *at = (const uint8_t *)(uintptr_t)from; at <= end; at++)
-            if (is_at(it, at) && (at < mine || at >= mine + mine_len)) found++;
+            if (is_at(one, at) && (at < mine || at >= mine + mine_len)) found++;
     }
     if (maps) fclose(maps);
     return found;
 }
 
-static void none_of(const secret *it) {
+static void none_of(const secret *one) {
     char what[200];
-    long found = count(it, (const uint8_t *)it, sizeof *it);
-    snprintf(what, sizeof what, "%s is nowhere in memory after kmip_close", it->name);
+    long found = count(one, (const uint8_t *)one, sizeof *one);
+    snprintf(what, sizeof what, "%s is nowhere in memory after kmip_close", one->name);
     check(found == 0, what);
     if (found != 0) printf("        it stands in %ld places\n", found);
 }

@@ -126,17 +126,17 @@ static outcome load_and_sign(OSSL_LIB_CTX *in, const char *uri) {
     EVP_PKEY *key = load(in, uri);
     size_t length = key ? sign(in, key, made, sizeof made) : 0;
     counts = false;
-    outcome it = !length                       ? (ERR_peek_error() ? ERROR : SILENT)
-                 : verifies(key, made, length) ? SIGNED
-                                               : WRONG;
+    outcome result = !length                       ? (ERR_peek_error() ? ERROR : SILENT)
+                     : verifies(key, made, length) ? SIGNED
+                                                   : WRONG;
     EVP_PKEY_free(key);
-    return it;
+    return result;
 }
 
 /* A session with the request of this number refused; 0: none. */
 static outcome session(const char *uri, long number, bool whole) {
     OSSL_LIB_CTX *in = NULL;
-    outcome it = ERROR;
+    outcome result = ERROR;
     asked = 0;
     refused = number;
     was_refused = false;
@@ -144,10 +144,10 @@ static outcome session(const char *uri, long number, bool whole) {
     counts = true;
     /* (OpenSSL keeps errors of openssl.cnf to itself) */
     if (whole) OSSL_LIB_CTX_load_config(in, getenv("OPENSSL_CONF"));
-    if (OSSL_PROVIDER_available(in, "metsuwan")) it = load_and_sign(in, uri);
+    if (OSSL_PROVIDER_available(in, "metsuwan")) result = load_and_sign(in, uri);
     counts = false;
     OSSL_LIB_CTX_free(in);
-    return it;
+    return result;
 }
 
 static int check(const char *what, bool good) {
@@ -161,9 +161,9 @@ static int refuse_in_turn(const char *uri, long step, bool whole) {
     long counted[4] = {0}, at[4] = {0}, tried = 0, number = 1;
     int failed = 0;
     for (was_refused = true; was_refused && number < MOST; number += step) {
-        outcome it = session(uri, number, whole);
-        counted[it] += was_refused;
-        at[it] = number;
+        outcome result = session(uri, number, whole);
+        counted[result] += was_refused;
+        at[result] = number;
         tried += was_refused;
         if (tried % 100 == 0) failed += session(uri, 0, whole) != SIGNED;
     }

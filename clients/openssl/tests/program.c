@@ -47,7 +47,7 @@ static void check(const char *what, bool good) {
 }
 
 /* Whether an error of the queue has this text; the queue is empty then. */
-static bool told(const char *text) {
+static bool says(const char *text) {
     bool found = false;
     const char *data;
     int flags;
@@ -145,7 +145,7 @@ static void hashes(void) {
 static void refusals(void) {
     EVP_PKEY_CTX *context = EVP_PKEY_CTX_new_from_pkey(NULL, key, NULL);
     check("a digest alone is refused, and why",
-          EVP_PKEY_sign_init(context) <= 0 && told("takes the data itself"));
+          EVP_PKEY_sign_init(context) <= 0 && says("takes the data itself"));
     check("decrypting is refused", EVP_PKEY_decrypt_init(context) <= 0);
     EVP_PKEY_CTX_free(context);
     unsigned char *der = NULL;
@@ -153,15 +153,15 @@ static void refusals(void) {
     uint8_t made[ROOM];
     size_t length = 100;
     check("too little room is refused, and why",
-          !sign_by(key, "q", made, &length) && told("room is for 100"));
+          !sign_by(key, "q", made, &length) && says("room is for 100"));
     EVP_MD_CTX *digest = EVP_MD_CTX_new();
     check("SHA-1 is refused, and why",
           EVP_DigestSignInit_ex(digest, NULL, "SHA1", NULL, NULL, key, NULL) <= 0 &&
-              told("SHA224, SHA256, SHA384 and SHA512 can be"));
+              says("SHA224, SHA256, SHA384 and SHA512 can be"));
     EVP_MD_CTX_free(digest);
     context = EVP_PKEY_CTX_new_from_name(NULL, "RSA", "provider=metsuwan");
     check("no key is made by this provider, and why",
-          EVP_PKEY_keygen_init(context) <= 0 && told("make an RSA key on the server"));
+          EVP_PKEY_keygen_init(context) <= 0 && says("make an RSA key on the server"));
     EVP_PKEY_CTX_free(context);
 }
 
@@ -238,7 +238,7 @@ static void lost(pid_t relay) {
     sent = kill(relay, SIGUSR2) == 0;
     rest();
     check("one that ends after the request was sent is an error",
-          sent && !sign_by(key, "three", made, &length) && told("ResponseReadError"));
+          sent && !sign_by(key, "three", made, &length) && says("ResponseReadError"));
     check("and the next signature has a new one", signs("four"));
 }
 
@@ -249,7 +249,7 @@ static void gone(pid_t server) {
     uint8_t made[ROOM];
     size_t length = sizeof made;
     check("with no server there is none, and why",
-          ended && !sign_by(key, "two", made, &length) && told("ConnectError"));
+          ended && !sign_by(key, "two", made, &length) && says("ConnectError"));
 }
 
 static EVP_PKEY *read_file(const char *path) {
@@ -275,7 +275,7 @@ static void wrong(const char *path, const char *text) {
     EVP_PKEY *found = read_file(path);
     char what[200];
     snprintf(what, sizeof what, "%s has no key, and why", path);
-    check(what, !found && told(text));
+    check(what, !found && says(text));
     EVP_PKEY_free(found);
 }
 

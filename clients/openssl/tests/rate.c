@@ -66,7 +66,7 @@ static bool take_round(bool (*sign)(void), long count, double least[2]) {
     return true;
 }
 
-static void tell(const char *who, const double least[2]) {
+static void print_rates(const char *who, const double least[2]) {
     printf("openssl, %s: sign %.2f ms, %.0f a second; %.3f ms of its own time\n", who,
            1000 * least[0], 1 / least[0], 1000 * least[1]);
 }
@@ -89,8 +89,8 @@ int main(int argc, char **argv) {
         good = take_round(by_library, atol(argv[8]), alone) &&
                take_round(by_provider, atol(argv[8]), over);
     if (good) {
-        tell("the library alone", alone);
-        tell("the provider", over);
+        print_rates("the library alone", alone);
+        print_rates("the provider", over);
     }
     kmip_close(client);
     EVP_PKEY_free(key);

@@ -118,8 +118,8 @@ def responses_of(message: bytes, ids: List[bytes], on_error: int) -> List[bytes]
     """
     try:
         header, items = _split(message, RESPONSE_HEADER)
-        named = [_ids_in(it) for it in items]
-        failed = [_has_failed(it) for it in items]
+        named = [_ids_in(item) for item in items]
+        failed = [_has_failed(item) for item in items]
     except ValueError as error:
         raise DeserializeError(str(error)) from None
     if failed == [True] and not named[0]:

@@ -191,7 +191,7 @@ def _write(where: str, kind: Kind, value: Option) -> str:
 
 def _options_of(name: str, options: Mapping[str, Option]) -> Iterator[str]:
     """The words of the options that are given. An index stands behind the attribute."""
-    for given, value in sorted(options.items(), key=lambda it: it[0] == 'index'):
+    for given, value in sorted(options.items(), key=lambda option: option[0] == 'index'):
         option = given.replace('_', '-')
         kind = OPTIONS.get(name, {}).get(option)
         if kind is None:
@@ -250,12 +250,12 @@ def _read_texts(name: str, texts: Sequence[str]) -> Tuple[List[Word], Dict[str, 
     given: Dict[str, Option] = {}
     if name == 'locate' and len(texts) > 1 and texts[0] == 'where':
         rest = rest[1:]
-    is_option = ['=' in it and it.partition('=')[0] in known or known.get(it) is FLAG
-                 for it in rest]
+    is_option = ['=' in word and word.partition('=')[0] in known or known.get(word) is FLAG
+                 for word in rest]
     if all(is_option) and (name != 'locate' or len(texts) > 1):
         texts = texts[:least]
-        for it in rest:
-            option, _, value = it.partition('=')
+        for word in rest:
+            option, _, value = word.partition('=')
             if option in given:
                 raise GrammarError('%s: %s is given twice' % (name, option))
             given[option] = _read('%s: %s' % (name, option), known[option], value)

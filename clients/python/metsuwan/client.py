@@ -191,8 +191,8 @@ class Client(Operations):
         :raises KmipError: by kind, as ``ItemNotFound``
         :raises TypeError: a word is of another type than the call wants
         """
-        if name == 'register' and any(is_pem(bytes(it)) for it in words
-                                      if isinstance(it, (bytes, bytearray, memoryview))):
+        if name == 'register' and any(is_pem(bytes(word)) for word in words
+                                      if isinstance(word, (bytes, bytearray, memoryview))):
             raise GrammarError('register: the key is PEM, which would be kept as its bytes: '
                                'register_private_key and register_public_key take it')
         return self._answer_to(line_of(name, words, options))
@@ -251,7 +251,8 @@ class Client(Operations):
         server does after an error."""
         if self._record is None or not response:
             return None
-        made = [it for it in map(self._library.request, calls) if isinstance(it, bytes)]
+        requests = map(self._library.request, calls)
+        made = [request for request in requests if isinstance(request, bytes)]
         if len(made) < len(calls):
             return MemoryError('out of memory')
         request = message_of(made, *batch) if batch else made[0]
@@ -295,8 +296,8 @@ class Client(Operations):
 
     def _send(self, calls: List[Call], on_error: int) -> List[Answer]:
         """Makes these calls in one message, and gives the answer or the error of each."""
-        requests = [self._library.request(it, self._credential) for it in calls]
-        made = [it for it in requests if isinstance(it, bytes)]
+        requests = [self._library.request(call, self._credential) for call in calls]
+        made = [request for request in requests if isinstance(request, bytes)]
         if len(made) < len(calls):
             raise MemoryError
         with self._alone(), self._logged('a batch of %d' % len(calls)) as log:
@@ -309,8 +310,8 @@ class Client(Operations):
                 self._end(False)
                 raise
             log.append('done')
-            answers = [self._answer_of(*it) for it in zip(calls, responses)]
-            if any(isinstance(it, ConnectionLost) for it in answers):
+            answers = [self._answer_of(*pair) for pair in zip(calls, responses)]
+            if any(isinstance(answer, ConnectionLost) for answer in answers):
                 self._end(False)
         if unwritten is not None:
             raise NotRecorded(str(unwritten), answers) from unwritten
@@ -511,7 +512,7 @@ class Client(Operations):
         ``it.text_at('AttributeName')``."""
         answer = self.call('attributes', identifier, *names)
         if isinstance(answer, Item):
-            return [Item.of_json(it) for it in answer['value'] if it['tag'] == 'Attribute']
+            return [Item.of_json(item) for item in answer['value'] if item['tag'] == 'Attribute']
         return list(value_at(answer, 'attributes'))
 
     def locate(self, *name: str, **attributes: Option) -> List[str]:

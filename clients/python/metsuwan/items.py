@@ -122,7 +122,7 @@ class Item(Dict[str, Any]):
             if parts and parts[0].isascii() and parts[0].isdigit():
                 index = int(parts.pop(0))
             items = found['value'] if found.get('type', 'Structure') == 'Structure' else []
-            same = [it for it in items if it['tag'] == tag]
+            same = [item for item in items if item['tag'] == tag]
             if index >= len(same):
                 raise MissingValue('%s has no %s' % (self['tag'], path))
             found = same[index]

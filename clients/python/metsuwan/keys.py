@@ -13,8 +13,8 @@ from .items import Item
 
 Text = Union[str, bytes, bytearray, memoryview]
 INTEGER, BIT_STRING, OCTET_STRING, OID, SEQUENCE, FIRST = 0x02, 0x03, 0x04, 0x06, 0x30, 0xA0
-RSA, EC, DSA = (bytes.fromhex(it) for it in ('2A864886F70D010101', '2A8648CE3D0201',
-                                             '2A8648CE380401'))
+RSA, EC, DSA = (bytes.fromhex(digits) for digits in (
+    '2A864886F70D010101', '2A8648CE3D0201', '2A8648CE380401'))
 # KMIP's names of curves, with the object identifiers and the bits of each.
 CURVES = {
     'P_192': ('2A8648CE3D030101', 192), 'P_224': ('2B81040021', 224),
@@ -169,10 +169,10 @@ RSA_PARTS = ('Modulus', 'PublicExponent', 'PrivateExponent', 'P', 'Q', 'PrimeExp
 def _transparent(form: str, material: Item) -> Optional[Tuple[str, bytes]]:
     """The label in PEM, and the DER, of a key whose parts are told one by one."""
     if form == 'TransparentRSAPublicKey':
-        numbers = [_integer(material.bytes_at(it)) for it in RSA_PARTS[:2]]
+        numbers = [_integer(material.bytes_at(name)) for name in RSA_PARTS[:2]]
         return 'RSA PUBLIC KEY', _element(SEQUENCE, *numbers)
     if form == 'TransparentRSAPrivateKey':
-        numbers = [_integer(material.bytes_at(it)) for it in RSA_PARTS]
+        numbers = [_integer(material.bytes_at(name)) for name in RSA_PARTS]
         return 'RSA PRIVATE KEY', _element(SEQUENCE, _integer(b''), *numbers)
     if re.fullmatch('TransparentEC(DSA|DH)?PublicKey', form):
         curve, _ = _curve(material)
@@ -215,9 +215,9 @@ def pem_of_parts(form: str, parts: Mapping[str, Any]) -> str:
 
     :raises MissingValue: it has not all of them
     """
-    tags = {it.replace('_', ''): value for it, value in parts.items() if value is not None}
-    items = [Item(it, bytes.fromhex(tags[it.lower()]), 'BigInteger')
-             for it in RSA_PARTS if it.lower() in tags]
+    tags = {name.replace('_', ''): value for name, value in parts.items() if value is not None}
+    items = [Item(name, bytes.fromhex(tags[name.lower()]), 'BigInteger')
+             for name in RSA_PARTS if name.lower() in tags]
     found = _transparent(form, Item('KeyMaterial', items))
     if found is None:
         raise MissingValue('%s has no PEM form' % form)

@@ -28,7 +28,7 @@ def is_port(port: Port) -> bool:
     text = str(port)
     if text.isascii() and text.isdigit():
         return len(text) <= 5 and 1 <= int(text) <= 65535
-    return any(it.isalpha() for it in text)
+    return any(character.isalpha() for character in text)
 
 
 def is_host(host: str) -> bool:

@@ -130,9 +130,9 @@ class Errors(unittest.TestCase):
         self.assertTrue(issubclass(MissingValue, LookupError))
         self.assertTrue(issubclass(ConnectionLost, OSError))
         for name in metsuwan.__all__:
-            it = getattr(metsuwan, name)
-            if isinstance(it, type) and issubclass(it, Exception):
-                self.assertTrue(issubclass(it, KmipError), name)
+            member = getattr(metsuwan, name)
+            if isinstance(member, type) and issubclass(member, Exception):
+                self.assertTrue(issubclass(member, KmipError), name)
 
     def test_errors_can_be_sent_to_another_process(self) -> None:
         error = error_of(3, {'error': 'InternalError', 'text': 'why', 'reason': {'number': 1}})

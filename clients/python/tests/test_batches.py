@@ -68,13 +68,13 @@ class Batches(unittest.TestCase):
                 self.assertFalse(kmip.is_open)
 
     def test_the_ids_are_numbers_that_follow_each_other(self) -> None:
-        told: List[str] = []
+        lines: List[str] = []
         last = mock.patch('os.urandom', side_effect=lambda count: b'\xff' * count)
-        with client_of('batches', record=told.append) as kmip, last:
+        with client_of('batches', record=lines.append) as kmip, last:
             batch = kmip.batch().call('activate', 'a').call('query').call('activate', 'k')
             first, _, third = batch.send()
             self.assertEqual((first, third), ({}, {}))
-        ids = re.findall('4200930800000008([0-9A-F]{16})', told[0].split(' ')[1])
+        ids = re.findall('4200930800000008([0-9A-F]{16})', lines[0].split(' ')[1])
         self.assertEqual(ids, ['F' * 16, '0' * 16, '0' * 15 + '1'])
 
     def test_an_item_that_was_not_asked_for_loses_the_connection(self) -> None:

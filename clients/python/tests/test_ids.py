@@ -20,7 +20,7 @@ class Ids(unittest.TestCase):
             # The server answers with the ID as data.
             ids = {encrypt(kmip).bytes_at('Data'), encrypt(kmip).bytes_at('Data'),
                    kmip.encrypt('k', b'x').data}
-            self.assertEqual((len(ids), {len(it) for it in ids}), (3, {8}))
+            self.assertEqual((len(ids), {len(name) for name in ids}), (3, {8}))
 
     def test_the_id_stands_behind_the_operation(self) -> None:
         # KMIP 1.0, 7.1 and 7.2: Query with no functions

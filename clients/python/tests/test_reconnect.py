@@ -21,7 +21,7 @@ class Reconnect(unittest.TestCase):
             with self.assertLogs('metsuwan', 'WARNING') as log:
                 kmip.activate('k')
                 kmip.activate('k')
-            self.assertEqual(len([it for it in log.output if 'opened again' in it]), 2)
+            self.assertEqual(len([line for line in log.output if 'opened again' in line]), 2)
         with client_of('end_after') as kmip:
             kmip.activate('k')
             with self.assertRaises(RequestWriteError):
@@ -65,8 +65,8 @@ class Logs(unittest.TestCase):
             kmip.sign('the key', b'the data')
             kmip.operation('Encrypt', [Item('UniqueIdentifier', 'the key')])
         text = '\n'.join(log.output)
-        for told in ('sign: status 0', 'Encrypt: status 0', 'ms'):
-            self.assertIn(told, text)
+        for words in ('sign: status 0', 'Encrypt: status 0', 'ms'):
+            self.assertIn(words, text)
         for secret in ('the key', 'the%20key', 'the data', 'signature'):
             self.assertNotIn(secret, text)
 

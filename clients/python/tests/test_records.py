@@ -27,12 +27,12 @@ def full(_: str) -> None:
 class Records(unittest.TestCase):
     def lines(self, *calls: Any, fake: str = 'good', **settings: Any) -> List[List[str]]:
         """What is recorded of these calls, a list of words for each line."""
-        told: List[str] = []
-        with client_of(fake, record=told.append, **settings) as kmip:
+        lines: List[str] = []
+        with client_of(fake, record=lines.append, **settings) as kmip:
             for call in calls:
                 call(kmip)
-        self.assertTrue(all(it.endswith('\n') and it.count('\n') == 1 for it in told))
-        return [it[:-1].split(' ') for it in told]
+        self.assertTrue(all(line.endswith('\n') and line.count('\n') == 1 for line in lines))
+        return [line[:-1].split(' ') for line in lines]
 
     def is_replayed(self, words: List[str]) -> None:
         """A client of this request, over this response, is answered."""
@@ -63,7 +63,7 @@ class Records(unittest.TestCase):
                            fake='batches')
         self.assertEqual(line[0], 'message')
         # The fake answers the last item first.
-        asked, answered = (re.findall('4200930800000008([0-9A-F]{16})', it) for it in line[1:])
+        asked, answered = (re.findall('4200930800000008([0-9A-F]{16})', word) for word in line[1:])
         self.assertEqual((len(set(asked)), asked), (2, answered[::-1]))
 
     def test_it_has_no_credential(self) -> None:
@@ -76,13 +76,13 @@ class Records(unittest.TestCase):
 
     def test_what_is_refused_is_recorded_and_what_is_lost_is_not(self) -> None:
         for fake, error, count in (('denied', ServerError, 1), ('half', ResponseReadError, 0)):
-            told: List[str] = []
-            with client_of(fake, record=told.append) as kmip:
+            lines: List[str] = []
+            with client_of(fake, record=lines.append) as kmip:
                 with self.subTest(fake), self.assertRaises(error):
                     kmip.activate('k')
                 with self.assertRaises(GrammarError):
                     kmip.activate('')
-            self.assertEqual(len(told), count)
+            self.assertEqual(len(lines), count)
 
     def test_a_record_that_is_not_written_loses_no_answer(self) -> None:
         with client_of('good', record=full) as kmip:

@@ -55,8 +55,8 @@ class Typed(unittest.TestCase):
                                     iterations=9, hash='SHA256')
         self.assertEqual(made, 'k')
         _, items, source = self.asked[0]
-        parameters = {it['tag']: it for it in items}['DerivationParameters']['value']
-        self.assertEqual([it['tag'] for it in parameters],
+        parameters = {item['tag']: item for item in items}['DerivationParameters']['value']
+        self.assertEqual([item['tag'] for item in parameters],
                          ['CryptographicParameters', 'Salt', 'IterationCount'])
         self.assertEqual(source, 'SymmetricKey')
         self.assertEqual(self.kmip.rekey('old'), 'k')

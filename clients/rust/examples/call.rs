@@ -30,7 +30,7 @@ fn no_setting(text: &str) -> Failure {
 /// A variable of the environment, where it is set and not empty.
 fn variable(name: &str) -> Result<Option<String>, Failure> {
     match env::var(name) {
-        Ok(text) => Ok(Some(text).filter(|it| !it.is_empty())),
+        Ok(text) => Ok(Some(text).filter(|text| !text.is_empty())),
         Err(VarError::NotPresent) => Ok(None),
         Err(VarError::NotUnicode(_)) => Err(no_setting(&format!("{name} is not UTF-8"))),
     }
@@ -38,7 +38,7 @@ fn variable(name: &str) -> Result<Option<String>, Failure> {
 
 /// The seconds that a text is: `Some(None)` for 0, which is no deadline.
 fn seconds(text: &str) -> Option<Option<Duration>> {
-    let seconds = text.parse::<f64>().ok().filter(|it| (0.0..1e9).contains(it))?;
+    let seconds = text.parse::<f64>().ok().filter(|seconds| (0.0..1e9).contains(seconds))?;
     Some((seconds > 0.0).then(|| Duration::from_secs_f64(seconds)))
 }
 
@@ -52,7 +52,7 @@ fn client_of(mut server: TlsConnector) -> Result<TlsClient, Failure> {
         server = server.with_passphrase(passphrase);
     }
     let no_limit = |_| no_setting("KMIP_LIMIT is no number of bytes, 0 to 4294967295");
-    let limit = variable("KMIP_LIMIT")?.map(|it| it.parse().map_err(no_limit)).transpose()?;
+    let limit = variable("KMIP_LIMIT")?.map(|text| text.parse().map_err(no_limit)).transpose()?;
     let credential = match (variable("KMIP_USER")?, variable("KMIP_PASSWORD")?) {
         (Some(user), Some(password)) => Some((user, password)),
         (None, None) => None,
@@ -86,7 +86,8 @@ fn options_of<'a>(texts: &[&'a str]) -> Result<(Register<'a>, SecretDataType), F
 /// Registers the contents of a file.
 fn register(client: &TlsClient, what: &str, texts: &[&str]) -> Result<String, Failure> {
     let [file, options @ ..] = texts else { return Err(settings::wrong("there is no file")) };
-    let bytes = std::fs::read(file).map_err(|it| settings::wrong(&format!("{file}: {it}")))?;
+    let bytes =
+        std::fs::read(file).map_err(|error| settings::wrong(&format!("{file}: {error}")))?;
     let (options, kind) = options_of(options)?;
     let made = match what {
         "private" => client.register_private_key(&bytes, options),

@@ -35,7 +35,7 @@ fn wanted(is_so: bool, otherwise: &str) -> Outcome<()> {
 
 fn live(client: &TlsClient, folder: &Path, count: u32) -> Outcome<()> {
     let server = client.query()?;
-    let can_sign = server.operations.iter().flatten().any(|it| it == "Sign");
+    let can_sign = server.operations.iter().flatten().any(|name| name == "Sign");
     wanted(can_sign && server.vendor_identification.is_some(), "query names no Sign")?;
     let (private_key, public_key) =
         client.create_rsa_key_pair(2048, "life, 100%".into(), "life, public".into())?;
@@ -70,7 +70,7 @@ fn run() -> Outcome<()> {
         let usage = "usage: life HOST PORT CERTIFICATE KEY AUTHORITY FOLDER [COUNT]";
         return Err(settings::wrong(usage).into());
     };
-    let count = count.first().map_or(Ok(0), |it| it.parse())?;
+    let count = count.first().map_or(Ok(0), |text| text.parse())?;
     live(&server.connect()?.build(), Path::new(folder), count)
 }
 
@@ -79,7 +79,7 @@ fn main() -> ExitCode {
         Ok(()) => ExitCode::SUCCESS,
         Err(error) => {
             settings::say(&error);
-            ExitCode::from(error.downcast_ref().map_or(1, |it: &Failure| it.1))
+            ExitCode::from(error.downcast_ref().map_or(1, |failure: &Failure| failure.1))
         }
     }
 }

@@ -88,7 +88,7 @@ impl Answer {
     /// The texts of the list at a path.
     pub(crate) fn texts_at(&self, path: &str) -> Result<Vec<String>> {
         let none = || Error::missing(format!("the answer has no list of texts at {path}"));
-        let texts = self.list_at(path)?.iter().map(|it| it.as_text().map(str::to_string));
+        let texts = self.list_at(path)?.iter().map(|item| item.as_text().map(str::to_string));
         texts.collect::<Option<_>>().ok_or_else(none)
     }
 

@@ -269,7 +269,7 @@ fn item(tag: u32, kind: u8, contents: &[u8]) -> Option<Vec<u8>> {
 /// The header and the items of a request that the library made.
 fn split(request: &[u8]) -> Option<(Vec<Part<'_>>, Vec<Part<'_>>)> {
     let message = parts(part(request).ok()?.contents).ok()?;
-    let of = |tag| message.iter().find(|it| it.is_structure(tag));
+    let of = |tag| message.iter().find(|item| item.is_structure(tag));
     let header = parts(of(REQUEST_HEADER)?.contents).ok()?;
     Some((header, parts(of(BATCH_ITEM)?.contents).ok()?))
 }
@@ -281,10 +281,10 @@ fn message_of(
     ids: Ids,
     on_error: BatchErrorContinuationOption,
 ) -> Option<Vec<u8>> {
-    let requests: Vec<_> = requests.iter().map(|it| split(it)).collect::<Option<_>>()?;
+    let requests: Vec<_> = requests.iter().map(|request| split(request)).collect::<Option<_>>()?;
     let headers = requests.iter().flat_map(|(header, _)| header);
     // The bytes of these items have the order of the versions.
-    let version = headers.filter(|it| it.tag == VERSION).map(|it| it.whole).max()?;
+    let version = headers.filter(|part| part.tag == VERSION).map(|part| part.whole).max()?;
     let count = u32::try_from(requests.len()).ok()?;
     let mut header = Vec::new();
     for own in &requests.first()?.0 {
@@ -327,9 +327,9 @@ struct Message<'a> {
 impl<'a> Message<'a> {
     fn of(response: &'a [u8]) -> Result<Self, &'static str> {
         let message = part(response)?;
-        let inner = |it: Part<'a>| {
-            let is_read = it.is_structure(RESPONSE_HEADER) || it.is_structure(BATCH_ITEM);
-            Ok((it, if is_read { parts(it.contents)? } else { Vec::new() }))
+        let inner = |part: Part<'a>| {
+            let is_read = part.is_structure(RESPONSE_HEADER) || part.is_structure(BATCH_ITEM);
+            Ok((part, if is_read { parts(part.contents)? } else { Vec::new() }))
         };
         let parts = parts(message.contents)?.into_iter().map(inner).collect::<Result<_, _>>()?;
         Ok(Message { tag: message.tag, parts })
@@ -344,19 +344,19 @@ impl<'a> Message<'a> {
     /// The one ID of the item at this place; `None`: it has none, or more, or one that is not of
     /// eight bytes.
     fn id_of(&self, at: usize) -> Option<[u8; 8]> {
-        let ids: Vec<_> = self.parts[at].1.iter().filter(|it| it.tag == ITEM_ID).collect();
+        let ids: Vec<_> = self.parts[at].1.iter().filter(|part| part.tag == ITEM_ID).collect();
         let [id] = ids[..] else { return None };
         id.contents.try_into().ok().filter(|_| id.kind == BYTES)
     }
 
     fn has_id(&self, at: usize) -> bool {
-        self.parts[at].1.iter().any(|it| it.tag == ITEM_ID)
+        self.parts[at].1.iter().any(|part| part.tag == ITEM_ID)
     }
 
     /// Whether the item at this place says that its call has failed.
     fn has_failed(&self, at: usize) -> bool {
-        let status = self.parts[at].1.iter().find(|it| it.tag == RESULT_STATUS);
-        status.and_then(|it| it.number(ENUMERATION)) == Some(FAILED)
+        let status = self.parts[at].1.iter().find(|part| part.tag == RESULT_STATUS);
+        status.and_then(|part| part.number(ENUMERATION)) == Some(FAILED)
     }
 
     /// The response to a single call: the message with the batch item at this place and no other.
@@ -366,12 +366,14 @@ impl<'a> Message<'a> {
         for (at, (own, inner)) in self.parts.iter().enumerate() {
             if own.is_structure(RESPONSE_HEADER) {
                 let parts =
-                    inner.iter().map(|it| if it.tag == BATCH_COUNT { &one } else { it.whole });
+                    inner
+                        .iter()
+                        .map(|part| if part.tag == BATCH_COUNT { &one } else { part.whole });
                 made.extend(item(own.tag, STRUCTURE, &parts.collect::<Vec<_>>().concat())?);
             } else if own.tag != BATCH_ITEM {
                 made.extend(own.whole);
             } else if at == chosen {
-                let parts = inner.iter().filter(|it| it.tag != ITEM_ID).map(|it| it.whole);
+                let parts = inner.iter().filter(|part| part.tag != ITEM_ID).map(|part| part.whole);
                 made.extend(item(own.tag, STRUCTURE, &parts.collect::<Vec<_>>().concat())?);
             }
         }

@@ -275,7 +275,7 @@ impl<T: Read + Write> Client<T> {
     /// The identifiers of the objects with all of these attributes; of all objects, where there are
     /// none.
     pub fn locate_with(&self, attributes: &[AttributeValue<'_>]) -> Result<Vec<String>> {
-        let given = attributes.iter().map(|it| it.given()).collect();
+        let given = attributes.iter().map(|attribute| attribute.given()).collect();
         self.call_given("locate", &[], &given)?.texts_at("unique_identifiers")
     }
 
@@ -292,7 +292,7 @@ impl<T: Read + Write> Client<T> {
         let words: Vec<_> = [Word::Text(object_id)].into_iter().chain(names).collect();
         let answer = self.call("attributes", &words)?;
         if let Some(tree) = answer.tree() {
-            let items = tree.items().iter().filter(|it| it.tag == "Attribute");
+            let items = tree.items().iter().filter(|item| item.tag == "Attribute");
             return items.map(Attribute::of_item).collect();
         }
         let count = answer.list_at("attributes")?.len();
@@ -303,9 +303,9 @@ impl<T: Read + Write> Client<T> {
     pub fn discover(&self) -> Result<Vec<ProtocolVersion>> {
         let answer = self.call("discover", &[])?;
         let none = || Error::missing("the answer has no number of a version");
-        let part = |it: &Json, name| it.member(name).and_then(Json::as_number).ok_or_else(none);
-        let version = |it: &Json| {
-            Ok(ProtocolVersion { major: part(it, "major")?, minor: part(it, "minor")? })
+        let part = |json: &Json, name| json.member(name).and_then(Json::as_number).ok_or_else(none);
+        let version = |json: &Json| {
+            Ok(ProtocolVersion { major: part(json, "major")?, minor: part(json, "minor")? })
         };
         answer.list_at("supported_versions")?.iter().map(version).collect()
     }

@@ -5,7 +5,7 @@ use crate::error::{Error, Result};
 use crate::item::Item;
 use crate::keys;
 use crate::library::{self, BadHead, NoRequest, Operation, Status, NO_ITEMS};
-use crate::log::{Event, EventKind, Log, Told};
+use crate::log::{Begun, Event, EventKind, Log};
 use crate::options::Given;
 use crate::record::{self, Record};
 use crate::word::{self, Word};
@@ -75,7 +75,7 @@ impl<T: Read + Write> ClientBuilder<T> {
             limit: DEFAULT_LIMIT,
             before_call: Box::new(|_: &mut T| Ok(())),
             reopen: None,
-            log: Log { tell: None, server: None },
+            log: Log { listener: None, server: None },
             record: None,
         }
     }
@@ -113,8 +113,8 @@ impl<T: Read + Write> ClientBuilder<T> {
 
     /// This is told of each call that has ended, and of a connection that is opened again. It is
     /// called within a call of the client, which it may not use.
-    pub fn with_log(self, tell: impl FnMut(&Event<'_>) + Send + 'static) -> Self {
-        ClientBuilder { log: Log { tell: Some(Box::new(tell)), ..self.log }, ..self }
+    pub fn with_log(self, listener: impl FnMut(&Event<'_>) + Send + 'static) -> Self {
+        ClientBuilder { log: Log { listener: Some(Box::new(listener)), ..self.log }, ..self }
     }
 
     /// This is told of each exchange whose whole response came, also of an operation and of a batch,
@@ -122,8 +122,8 @@ impl<T: Read + Write> ClientBuilder<T> {
     /// which `kmip_run replay` answers again; or, where it has no such call, `message REQUEST
     /// RESPONSE`. Keys stand in it where they were sent or given. It is called within a call of the
     /// client, which it may not use; what it cannot write is its own to tell.
-    pub fn with_record(self, tell: impl FnMut(&str) + Send + 'static) -> Self {
-        ClientBuilder { record: Some(Box::new(tell)), ..self }
+    pub fn with_record(self, listener: impl FnMut(&str) + Send + 'static) -> Self {
+        ClientBuilder { record: Some(Box::new(listener)), ..self }
     }
 
     /// The server, for the log.
@@ -143,7 +143,7 @@ impl<T: Read + Write> ClientBuilder<T> {
 
 /// What `Debug` shows of a credential: the user alone.
 fn user_of(credential: &Option<Credential>) -> Option<&str> {
-    credential.as_ref().map(|it| it.user.as_str())
+    credential.as_ref().map(|credential| credential.user.as_str())
 }
 
 impl<T> Debug for ClientBuilder<T> {
@@ -274,7 +274,7 @@ impl<T: Read + Write> Client<T> {
             let mut item_id = [0; 8];
             let (plain, asked) = (asked, asked.identified(&mut item_id, self.random)?);
             let request = asked.request(self.credential())?;
-            let call = Told::begin(asked.name());
+            let call = Begun::begin(asked.name());
             let response = wire.response_again(call, &request, self.limit, asked.is_changeless());
             let read = response.as_ref().map_or(0, Vec::len);
             let response = wire.recorded(response, || plain.request(None));
@@ -302,7 +302,7 @@ impl<T: Read + Write> Client<T> {
                 message_of(&requests.collect::<Result<Vec<_>>>()?, ids)
             };
             let request = message(self.credential())?;
-            let call = Told::begin("batch");
+            let call = Begun::begin("batch");
             let is_changeless = calls.iter().all(Asked::is_changeless);
             let response = wire.response_again(call, &request, self.limit, is_changeless);
             let read = response.as_ref().map_or(0, Vec::len);
@@ -311,7 +311,7 @@ impl<T: Read + Write> Client<T> {
             let name = format!("a batch of {}", calls.len());
             wire.tell_end(call, &name, responses.as_ref().err(), (request.len(), read));
             let answers: Vec<_> = calls.iter().zip(responses?).map(answer_of_batch).collect();
-            if answers.iter().any(|it| matches!(it, Err(error) if error.is_lost())) {
+            if answers.iter().any(|answer| matches!(answer, Err(error) if error.is_lost())) {
                 wire.stream = None;
             }
             Ok(answers)
@@ -319,7 +319,9 @@ impl<T: Read + Write> Client<T> {
     }
 
     pub(crate) fn credential(&self) -> Option<(&str, &str)> {
-        self.credential.as_ref().map(|it| (it.user.as_str(), it.password.as_str()))
+        self.credential
+            .as_ref()
+            .map(|credential| (credential.user.as_str(), credential.password.as_str()))
     }
 }
 
@@ -363,7 +365,7 @@ impl<T> Wire<T> {
     /// Tells the log that a call of this name has ended, which sent and read so many bytes.
     fn tell_end(
         &mut self,
-        call: Told<'_>,
+        call: Begun<'_>,
         name: &str,
         error: Option<&Error>,
         (sent, read): (usize, usize),
@@ -373,7 +375,7 @@ impl<T> Wire<T> {
             _ => format!("status {}, {sent} bytes sent, {read} read", status_of(error)),
         };
         let text = format!("{name}: {what}, {}", call.took());
-        self.log.tell(call, EventKind::Call, error.map(Error::kind), &text);
+        self.log.report(call, EventKind::Call, error.map(Error::kind), &text);
     }
 }
 
@@ -389,12 +391,12 @@ fn status_of(error: Option<&Error>) -> u8 {
 
 impl<T: Read + Write> Wire<T> {
     /// The stream, which is opened again where it was lost.
-    fn ready(&mut self, call: Told<'_>) -> Result<&mut T> {
+    fn ready(&mut self, call: Begun<'_>) -> Result<&mut T> {
         if self.stream.is_none() {
             let reopen = self.reopen.as_mut().ok_or_else(Error::closed)?;
             self.stream = Some(reopen()?);
             let text = "the connection was lost, and is opened again";
-            self.log.tell(call, EventKind::Reopened, None, text);
+            self.log.report(call, EventKind::Reopened, None, text);
         }
         self.stream.as_mut().ok_or_else(Error::closed)
     }
@@ -403,7 +405,7 @@ impl<T: Read + Write> Wire<T> {
     /// new stream.
     fn response_again(
         &mut self,
-        call: Told<'_>,
+        call: Begun<'_>,
         request: &[u8],
         limit: u32,
         is_changeless: bool,
@@ -425,7 +427,7 @@ impl<T: Read + Write> Wire<T> {
         };
         self.stream = None;
         let text = format!("{}: the call is made again", error.details().text());
-        self.log.tell(call, EventKind::Repeated, Some(error.kind()), &text);
+        self.log.report(call, EventKind::Repeated, Some(error.kind()), &text);
         self.response(call, request, limit, &mut is_sent)
     }
 
@@ -437,15 +439,15 @@ impl<T: Read + Write> Wire<T> {
         request: impl FnOnce() -> Result<Vec<u8>>,
     ) -> Result<Vec<u8>> {
         let response = response?;
-        if let Some(tell) = &mut self.record {
-            tell(&record::line_of(&request()?, &response));
+        if let Some(listener) = &mut self.record {
+            listener(&record::line_of(&request()?, &response));
         }
         Ok(response)
     }
 
     fn response(
         &mut self,
-        call: Told<'_>,
+        call: Begun<'_>,
         request: &[u8],
         limit: u32,
         is_sent: &mut bool,

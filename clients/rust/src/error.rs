@@ -31,7 +31,7 @@ struct Said {
 /// Two are equal where all that is said is the same, and the stream's errors are of one kind.
 impl PartialEq for Details {
     fn eq(&self, other: &Details) -> bool {
-        let all = |it: &Details| (it.lost, it.io_kind());
+        let all = |details: &Details| (details.lost, details.io_kind());
         all(self) == all(other) && self.text == other.text && self.said == other.said
     }
 }
@@ -199,19 +199,19 @@ impl Error {
     /// The error of a line `{"error":..,"text":..}`; `lost` where the connection is to be closed.
     pub(crate) fn of_line(line: &str, lost: bool) -> Error {
         let json = Json::parse(line);
-        let member = |name: &str| json.as_ref().and_then(|it| it.member(name));
+        let member = |name: &str| json.as_ref().and_then(|json| json.member(name));
         let text = |name: &str| member(name).and_then(Json::as_text);
         let (Some(kind), Some(said)) = (text("error"), text("text")) else {
             return Error::Unknown(Details::new("the library's line cannot be read", true));
         };
         // An object with a number and a name, or a number alone.
         let reason = member("reason");
-        let number = reason.and_then(|it| it.member("number").or(Some(it)));
-        let name = reason.and_then(|it| it.member("name")).and_then(Json::as_text);
+        let number = reason.and_then(|reason| reason.member("number").or(Some(reason)));
+        let name = reason.and_then(|reason| reason.member("name")).and_then(Json::as_text);
         let details = Details {
             said: Some(Box::new(Said {
                 kind: kind.to_string(),
-                reason: number.and_then(Json::as_number).and_then(|it| it.try_into().ok()),
+                reason: number.and_then(Json::as_number).and_then(|number| number.try_into().ok()),
                 reason_name: name.map(str::to_string),
                 message: text("message").map(str::to_string),
                 response: text("response").map(str::to_string),
@@ -233,21 +233,21 @@ impl Error {
 
     fn parts(&self) -> (&'static str, &Details) {
         match self {
-            Error::GrammarError(it) => ("GrammarError", it),
-            Error::ConfigurationError(it) => ("ConfigurationError", it),
-            Error::MissingValue(it) => ("MissingValue", it),
-            Error::ConnectError(it) => ("ConnectError", it),
-            Error::SerializeError(it) => ("SerializeError", it),
-            Error::RequestWriteError(it) => ("RequestWriteError", it),
-            Error::ResponseReadError(it) => ("ResponseReadError", it),
-            Error::DeserializeError(it) => ("DeserializeError", it),
-            Error::ServerError(it) => ("ServerError", it),
-            Error::InternalError(it) => ("InternalError", it),
-            Error::OtherObject(it) => ("OtherObject", it),
-            Error::ItemNotFound(it) => ("ItemNotFound", it),
-            Error::NotDone(it) => ("NotDone", it),
-            Error::OutOfMemory(it) => ("OutOfMemory", it),
-            Error::Unknown(it) => ("Unknown", it),
+            Error::GrammarError(details) => ("GrammarError", details),
+            Error::ConfigurationError(details) => ("ConfigurationError", details),
+            Error::MissingValue(details) => ("MissingValue", details),
+            Error::ConnectError(details) => ("ConnectError", details),
+            Error::SerializeError(details) => ("SerializeError", details),
+            Error::RequestWriteError(details) => ("RequestWriteError", details),
+            Error::ResponseReadError(details) => ("ResponseReadError", details),
+            Error::DeserializeError(details) => ("DeserializeError", details),
+            Error::ServerError(details) => ("ServerError", details),
+            Error::InternalError(details) => ("InternalError", details),
+            Error::OtherObject(details) => ("OtherObject", details),
+            Error::ItemNotFound(details) => ("ItemNotFound", details),
+            Error::NotDone(details) => ("NotDone", details),
+            Error::OutOfMemory(details) => ("OutOfMemory", details),
+            Error::Unknown(details) => ("Unknown", details),
         }
     }
 
@@ -279,10 +279,10 @@ impl Error {
     /// The error as a line of JSON has it: `error`, `text`, and what else is known.
     pub fn json(&self) -> Json {
         let (kind, details) = self.parts();
-        let kind = details.said.as_ref().map_or(kind, |it| it.kind.as_str());
+        let kind = details.said.as_ref().map_or(kind, |said| said.kind.as_str());
         let name = details.reason_name().map(Json::text);
-        let number = details.reason().map(|it| Json::Number(it.to_string()));
-        let reason = number.map(|it| object([("name", name), ("number", Some(it))]));
+        let number = details.reason().map(|reason| Json::Number(reason.to_string()));
+        let reason = number.map(|number| object([("name", name), ("number", Some(number))]));
         object([
             ("error", Some(Json::text(kind))),
             ("text", Some(Json::text(details.text()))),
@@ -308,7 +308,7 @@ impl Display for Error {
 
 impl std::error::Error for Error {
     fn source(&self) -> Option<&(dyn std::error::Error + 'static)> {
-        self.details().io_error().map(|it| it as _)
+        self.details().io_error().map(|error| error as _)
     }
 }
 
@@ -350,7 +350,7 @@ mod tests {
     fn an_error_of_the_stream_is_kept() {
         use std::error::Error as _;
         let error = Error::read(io::Error::from_raw_os_error(104));
-        let source = error.source().and_then(|it| it.downcast_ref::<io::Error>()).unwrap();
+        let source = error.source().and_then(|source| source.downcast_ref::<io::Error>()).unwrap();
         assert_eq!(source.raw_os_error(), Some(104));
         assert_eq!(error.details().io_kind(), Some(io::ErrorKind::ConnectionReset));
         assert_eq!(error, error.clone());

@@ -145,10 +145,10 @@ impl Item {
     pub fn item_at(&self, path: &str) -> Result<&Item> {
         let mut found = Some(self);
         let mut tags = path.split('.').peekable();
-        while let (Some(it), Some(tag)) = (found, tags.next()) {
+        while let (Some(item_above), Some(tag)) = (found, tags.next()) {
             let index = tags.next_if(|part| part.bytes().all(|byte| byte.is_ascii_digit()));
             let index = index.map_or(Ok(0), str::parse);
-            let mut same = it.items().iter().filter(|item| item.tag == tag);
+            let mut same = item_above.items().iter().filter(|item| item.tag == tag);
             found = index.ok().and_then(|index| same.nth(index));
         }
         found.ok_or_else(|| Error::missing(format!("{} has no {path}", self.tag)))
@@ -273,7 +273,7 @@ impl Value {
         let text = || json.as_text().map(str::to_string);
         Some(match kind {
             "Structure" => {
-                let items = json.as_list()?.iter().map(|it| Item::of_levels(it, levels));
+                let items = json.as_list()?.iter().map(|item| Item::of_levels(item, levels));
                 Value::Structure(items.collect::<Option<_>>()?)
             }
             "Integer" => Value::Integer(match json.as_text() {
@@ -309,22 +309,22 @@ fn mask_of(names: &str) -> Option<i32> {
 
 /// The bits of a name, or of `0x` and eight digits.
 fn bits_of(name: &str) -> Option<i32> {
-    if let Some(digits) = name.strip_prefix("0x").filter(|it| it.len() == 8) {
+    if let Some(digits) = name.strip_prefix("0x").filter(|digits| digits.len() == 8) {
         let bits = u32::from_str_radix(digits, 16).ok()?;
         return Some(i32::from_be_bytes(bits.to_be_bytes()));
     }
     // KMIP's encodings have `MACGenerate` for `MacGenerate`.
-    let is_it = |it: &&CryptographicUsageMask| it.names()[0].eq_ignore_ascii_case(name);
+    let is_it = |bit: &&CryptographicUsageMask| bit.names()[0].eq_ignore_ascii_case(name);
     match name {
         "OnLineStorage" => Some(1),
         "ArchivalStorage" => Some(2),
-        _ => CryptographicUsageMask::ALL.iter().find(is_it).map(|it| it.bits()),
+        _ => CryptographicUsageMask::ALL.iter().find(is_it).map(|bit| bit.bits()),
     }
 }
 
 /// The number of 64 bits that a text as `0x0000000047DA67F8` is.
 fn hex_number(json: &Json) -> Option<i64> {
-    let digits = json.as_text()?.strip_prefix("0x").filter(|it| it.len() == 16)?;
+    let digits = json.as_text()?.strip_prefix("0x").filter(|digits| digits.len() == 16)?;
     u64::from_str_radix(digits, 16).ok().map(|bits| i64::from_be_bytes(bits.to_be_bytes()))
 }
 

@@ -119,7 +119,7 @@ impl Json {
     pub fn member(&self, name: &str) -> Option<&Json> {
         match self {
             Json::Object(members) => {
-                members.iter().find(|(it, _)| it.as_str() == name).map(|(_, value)| value)
+                members.iter().find(|(key, _)| key.as_str() == name).map(|(_, value)| value)
             }
             _ => None,
         }
@@ -168,10 +168,11 @@ impl Json {
 
 /// The bytes that hex digits stand for.
 pub(crate) fn bytes_of(hex: &str) -> Option<Vec<u8>> {
-    let digit = |it: u8| char::from(it).to_digit(16).and_then(|it| u8::try_from(it).ok());
+    let digit = |byte: u8| char::from(byte).to_digit(16).and_then(|byte| u8::try_from(byte).ok());
     let digits = hex.as_bytes();
-    (digits.len() % 2 == 0)
-        .then(|| digits.chunks(2).map(|it| Some(digit(it[0])? << 4 | digit(it[1])?)).collect())?
+    (digits.len() % 2 == 0).then(|| {
+        digits.chunks(2).map(|pair| Some(digit(pair[0])? << 4 | digit(pair[1])?)).collect()
+    })?
 }
 
 impl Debug for Json {
@@ -218,11 +219,11 @@ impl Display for Json {
 
 fn write_text(f: &mut Formatter<'_>, text: &str) -> fmt::Result {
     f.write_char('"')?;
-    for it in text.chars() {
-        match it {
-            '"' | '\\' => write!(f, "\\{it}")?,
-            '\0'..='\x1F' | '\x7F' => write!(f, "\\u{:04X}", u32::from(it))?,
-            _ => f.write_char(it)?,
+    for character in text.chars() {
+        match character {
+            '"' | '\\' => write!(f, "\\{character}")?,
+            '\0'..='\x1F' | '\x7F' => write!(f, "\\u{:04X}", u32::from(character))?,
+            _ => f.write_char(character)?,
         }
     }
     f.write_char('"')
@@ -328,7 +329,7 @@ impl<'a> Reader<'a> {
         loop {
             self.skip_spaces();
             let name = self.string()?;
-            if members.iter().any(|(it, _)| *it == name) || !self.is_next(b':') {
+            if members.iter().any(|(key, _)| *key == name) || !self.is_next(b':') {
                 return None;
             }
             members.push((name, self.value(levels)?));
@@ -377,7 +378,7 @@ impl<'a> Reader<'a> {
                 }
                 self.sign(b'\\')?;
                 self.sign(b'u')?;
-                let second = self.four_digits()?.checked_sub(0xDC00).filter(|it| *it < 0x400)?;
+                let second = self.four_digits()?.checked_sub(0xDC00).filter(|low| *low < 0x400)?;
                 return char::from_u32(0x10000 + ((first - 0xD800) << 10) + second);
             }
             _ => return None,

@@ -82,7 +82,7 @@ fn unpadded(number: &[u8]) -> &[u8] {
 }
 
 fn curve_bits(identifier: &[u8]) -> Option<i32> {
-    let curve = CURVES.iter().find(|it| it.1 == identifier)?;
+    let curve = CURVES.iter().find(|curve| curve.1 == identifier)?;
     i32::try_from(curve.2).ok()
 }
 
@@ -142,7 +142,7 @@ fn blocks(mut text: &str) -> Vec<(&str, &str)> {
 
 /// Whether bytes begin as a text of PEM does, as hex digits.
 pub(crate) fn is_pem(digits: &str) -> bool {
-    digits.get(..22).is_some_and(|it| it.eq_ignore_ascii_case("2D2D2D2D2D424547494E20"))
+    digits.get(..22).is_some_and(|head| head.eq_ignore_ascii_case("2D2D2D2D2D424547494E20"))
 }
 
 /// The key block of the key of this kind that a text of PEM holds, and nothing else.
@@ -157,7 +157,7 @@ pub(crate) fn block_of_pem(text: &[u8], kind: &str) -> Result<Item> {
         let text = "the key is encrypted: decrypt it before, as by openssl pkey";
         return Err(Error::grammar(text));
     }
-    let format = FORMATS.iter().find(|it| it.0 == label && it.1 == kind);
+    let format = FORMATS.iter().find(|row| row.0 == label && row.1 == kind);
     let (_, _, format) =
         format.ok_or_else(|| Error::grammar(format!("the PEM has no {kind}: it is a {label}")))?;
     let der = pem::bytes_of(body).ok_or_else(|| Error::grammar("the key is not base64"))?;
@@ -195,7 +195,7 @@ fn put(tag: u8, parts: &[&[u8]]) -> Vec<u8> {
 
 fn put_integer(number: &[u8]) -> Vec<u8> {
     let number = unpadded(number);
-    let zero: &[u8] = if number.first().map_or(true, |it| *it >= 0x80) { &[0] } else { &[] };
+    let zero: &[u8] = if number.first().map_or(true, |first| *first >= 0x80) { &[0] } else { &[] };
     put(INTEGER, &[zero, number])
 }
 
@@ -224,7 +224,7 @@ fn of_parts(format: &str, material: &Item) -> Result<(&'static str, Vec<u8>)> {
     let none = || Error::missing(format!("{format} has no PEM form"));
     let curve = || {
         let name = material.name_at("RecommendedCurve")?;
-        CURVES.iter().find(|it| it.0 == name).ok_or_else(none)
+        CURVES.iter().find(|curve| curve.0 == name).ok_or_else(none)
     };
     match format {
         "TransparentRSAPublicKey" => {

@@ -377,7 +377,7 @@ fn line_of(response: &[u8], mut read: impl FnMut(&mut [u8], &mut i64) -> i32) ->
         _ => Status::Memory,
     };
     let line = String::from_utf8(line);
-    (status, line.unwrap_or_else(|it| String::from_utf8_lossy(it.as_bytes()).into_owned()))
+    (status, line.unwrap_or_else(|error| String::from_utf8_lossy(error.as_bytes()).into_owned()))
 }
 
 /// A value of the answer that a response is to a call, at a path as `attributes.0.name`: as text,

@@ -38,25 +38,25 @@ impl Display for Event<'_> {
 }
 
 /// What is told of each event.
-pub(crate) type Tell = Box<dyn FnMut(&Event<'_>) + Send>;
+pub(crate) type Listener = Box<dyn FnMut(&Event<'_>) + Send>;
 
 /// Where a client tells of its calls.
 pub(crate) struct Log {
-    pub(crate) tell: Option<Tell>,
+    pub(crate) listener: Option<Listener>,
     /// The server, as `localhost:5696`, where it is known.
     pub(crate) server: Option<String>,
 }
 
 /// A call that is told of.
 #[derive(Clone, Copy)]
-pub(crate) struct Told<'a> {
+pub(crate) struct Begun<'a> {
     pub(crate) operation: &'a str,
     begun: Instant,
 }
 
-impl<'a> Told<'a> {
+impl<'a> Begun<'a> {
     pub(crate) fn begin(operation: &'a str) -> Self {
-        Told { operation, begun: Instant::now() }
+        Begun { operation, begun: Instant::now() }
     }
 
     /// How long it has taken, in words.
@@ -66,16 +66,16 @@ impl<'a> Told<'a> {
 }
 
 impl Log {
-    pub(crate) fn tell(
+    pub(crate) fn report(
         &mut self,
-        call: Told<'_>,
+        call: Begun<'_>,
         kind: EventKind,
         error: Option<&'static str>,
         text: &str,
     ) {
-        let Some(tell) = &mut self.tell else { return };
-        let server = self.server.as_deref().map_or(String::new(), |it| format!("{it}: "));
-        tell(&Event {
+        let Some(listener) = &mut self.listener else { return };
+        let server = self.server.as_deref().map_or(String::new(), |name| format!("{name}: "));
+        listener(&Event {
             kind,
             operation: call.operation,
             error,

@@ -51,7 +51,7 @@ macro_rules! enumeration {
             type Err = NotInTable;
 
             fn from_str(name: &str) -> Result<$name, NotInTable> {
-                let found = $name::ALL.iter().find(|it| it.name() == name).copied();
+                let found = $name::ALL.iter().find(|one| one.name() == name).copied();
                 found.ok_or_else(|| NotInTable { table: stringify!($name), value: name.into() })
             }
         }
@@ -61,7 +61,7 @@ macro_rules! enumeration {
             type Error = NotInTable;
 
             fn try_from(number: u32) -> Result<$name, NotInTable> {
-                let found = $name::ALL.iter().find(|it| it.number() == number).copied();
+                let found = $name::ALL.iter().find(|one| one.number() == number).copied();
                 let value = format!("0x{number:08X}");
                 found.ok_or(NotInTable { table: stringify!($name), value })
             }
@@ -191,9 +191,9 @@ impl TryFrom<u32> for CryptographicUsageMask {
     type Error = NotInTable;
 
     fn try_from(bits: u32) -> Result<CryptographicUsageMask, NotInTable> {
-        let all = CryptographicUsageMask::ALL.iter().fold(0, |bits, it| bits | it.0);
+        let all = CryptographicUsageMask::ALL.iter().fold(0, |bits, bit| bits | bit.0);
         let value = format!("0x{bits:08X}");
-        let known = i32::try_from(bits).ok().filter(|it| *it != 0 && it & !all == 0);
+        let known = i32::try_from(bits).ok().filter(|number| *number != 0 && number & !all == 0);
         let none = NotInTable { table: "CryptographicUsageMask", value };
         known.map(CryptographicUsageMask).ok_or(none)
     }
@@ -206,7 +206,7 @@ impl FromStr for CryptographicUsageMask {
     fn from_str(names: &str) -> Result<CryptographicUsageMask, NotInTable> {
         let of_name = |name: &str| {
             let all = CryptographicUsageMask::ALL.iter();
-            let found = all.copied().find(|it| it.names() == [name]);
+            let found = all.copied().find(|one| one.names() == [name]);
             let table = "CryptographicUsageMask";
             found.ok_or_else(|| NotInTable { table, value: name.into() })
         };
@@ -257,9 +257,9 @@ mod tests {
 
     #[test]
     fn values_are_found_by_name_and_number() {
-        for it in HashingAlgorithm::ALL {
-            assert_eq!(it.name().parse(), Ok(*it));
-            assert_eq!(HashingAlgorithm::try_from(it.number()), Ok(*it));
+        for one in HashingAlgorithm::ALL {
+            assert_eq!(one.name().parse(), Ok(*one));
+            assert_eq!(HashingAlgorithm::try_from(one.number()), Ok(*one));
         }
         for (wrong, text) in [("SHA3", "SHA3"), ("", ""), ("sha256", "sha256")] {
             let error = wrong.parse::<HashingAlgorithm>().unwrap_err();

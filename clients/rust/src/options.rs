@@ -61,9 +61,9 @@ impl Sign {
 
     pub(crate) fn given(self) -> Given<'static> {
         given_of([
-            self.hash.map(|it| ("hash", it.name().into())),
-            self.padding.map(|it| ("padding", it.name().into())),
-            self.algorithm.map(|it| ("algorithm", it.name().into())),
+            self.hash.map(|value| ("hash", value.name().into())),
+            self.padding.map(|value| ("padding", value.name().into())),
+            self.algorithm.map(|value| ("algorithm", value.name().into())),
             self.prehashed.then_some(("prehashed", "".into())),
         ])
     }
@@ -98,9 +98,9 @@ impl<'a> Revoke<'a> {
 
     pub(crate) fn given(self) -> Given<'a> {
         given_of([
-            self.reason.map(|it| ("reason", it.name().into())),
-            self.message.map(|it| ("message", it.into())),
-            self.since.map(|it| ("since", it.to_string().into())),
+            self.reason.map(|value| ("reason", value.name().into())),
+            self.message.map(|value| ("message", value.into())),
+            self.since.map(|value| ("since", value.to_string().into())),
         ])
     }
 }
@@ -127,8 +127,8 @@ impl<'a> Get<'a> {
 
     pub(crate) fn given(self) -> Given<'a> {
         given_of([
-            self.format.map(|it| ("format", it.name().into())),
-            self.wrap.map(|it| ("wrap", it.into())),
+            self.format.map(|value| ("format", value.name().into())),
+            self.wrap.map(|value| ("wrap", value.into())),
         ])
     }
 }
@@ -147,7 +147,7 @@ impl Create {
     }
 
     pub(crate) fn given(self) -> Given<'static> {
-        given_of([self.usage.map(|it| ("usage", uses_of(it)))])
+        given_of([self.usage.map(|value| ("usage", uses_of(value)))])
     }
 }
 
@@ -173,8 +173,8 @@ impl CreateRsa {
 
     pub(crate) fn given(self) -> Given<'static> {
         given_of([
-            self.private_usage.map(|it| ("private-usage", uses_of(it))),
-            self.public_usage.map(|it| ("public-usage", uses_of(it))),
+            self.private_usage.map(|value| ("private-usage", uses_of(value))),
+            self.public_usage.map(|value| ("public-usage", uses_of(value))),
         ])
     }
 }
@@ -202,14 +202,14 @@ impl<'a> Register<'a> {
 
     pub(crate) fn given(self) -> Given<'a> {
         given_of([
-            self.usage.map(|it| ("usage", uses_of(it))),
-            self.name.map(|it| ("name", it.into())),
+            self.usage.map(|value| ("usage", uses_of(value))),
+            self.name.map(|value| ("name", value.into())),
         ])
     }
 
     /// The same as items of a message.
     pub(crate) fn attributes(self) -> Vec<Item> {
-        let usage = self.usage.map(|it| attribute("Cryptographic Usage Mask", it.bits()));
+        let usage = self.usage.map(|value| attribute("Cryptographic Usage Mask", value.bits()));
         let name = self.name.map(|name| {
             let kind = Item::enumeration("NameType", "UninterpretedTextString");
             attribute("Name", vec![Item::new("NameValue", name), kind])
@@ -318,11 +318,11 @@ impl<'a> AttributeValue<'a> {
             AttributeValue::Name(text) => ("name", text.into()),
             AttributeValue::ObjectGroup(text) => ("group", text.into()),
             AttributeValue::ContactInformation(text) => ("contact", text.into()),
-            AttributeValue::ObjectType(it) => ("type", it.name().into()),
-            AttributeValue::State(it) => ("state", it.name().into()),
-            AttributeValue::CryptographicAlgorithm(it) => ("algorithm", it.name().into()),
-            AttributeValue::CryptographicLength(it) => ("length", it.to_string().into()),
-            AttributeValue::ActivationDate(it) => ("activation", it.to_string().into()),
+            AttributeValue::ObjectType(value) => ("type", value.name().into()),
+            AttributeValue::State(value) => ("state", value.name().into()),
+            AttributeValue::CryptographicAlgorithm(value) => ("algorithm", value.name().into()),
+            AttributeValue::CryptographicLength(value) => ("length", value.to_string().into()),
+            AttributeValue::ActivationDate(value) => ("activation", value.to_string().into()),
         }
     }
 }

@@ -96,7 +96,7 @@ impl Attribute {
                 .to_string(),
             index: found
                 .member("index")
-                .map(|it| it.as_number().ok_or_else(|| none("index")))
+                .map(|json| json.as_number().ok_or_else(|| none("index")))
                 .transpose()?,
             value: found.member("value").ok_or_else(|| none("value"))?.clone(),
         })
@@ -174,7 +174,7 @@ impl GetResponsePayload {
         let call = Operation::new("Get", "1.2", library::NO_ITEMS);
         let (status, line) = library::operation_answer(&call, self.answer.response());
         let answer = (status == Status::Answered).then(|| Answer::of_line(line, Vec::new()));
-        let tree = answer.flatten().and_then(|it| it.tree());
+        let tree = answer.flatten().and_then(|answer| answer.tree());
         tree.ok_or_else(|| Error::missing("the answer has no PEM form"))
     }
 

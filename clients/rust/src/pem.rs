@@ -211,7 +211,7 @@ mod tests {
 
     #[test]
     fn no_other_structure_is_a_certificate() {
-        let mut ders: Vec<_> = KEYS.iter().map(|it| bytes_of(it).unwrap()).collect();
+        let mut ders: Vec<_> = KEYS.iter().map(|pem| bytes_of(pem).unwrap()).collect();
         ders.extend([vec![0x30, 0x00], vec![0x30, 0x01, 0xFF], vec![0x30, 0x02, 0x30, 0x00]]);
         ders.push([vec![0x30, 0x82, 0x01, 0x00], vec![7; 256]].concat());
         for der in ders {

@@ -10,6 +10,6 @@ pub(crate) type Record = Box<dyn FnMut(&str) + Send>;
 pub(crate) fn line_of(request: &[u8], response: &[u8]) -> String {
     let digits = hex_of(request);
     let made = library::request(&format!("raw {digits}"), None);
-    let word = if made.is_ok_and(|it| it == request) { "raw" } else { "message" };
+    let word = if made.is_ok_and(|made| made == request) { "raw" } else { "message" };
     format!("{word} {digits} {}\n", hex_of(response))
 }

@@ -86,7 +86,7 @@ impl TlsConnector {
     /// The most time of the opening, and of each call, whatever the server does: 30 seconds where
     /// no other is given; `None` or zero is no deadline.
     pub fn with_timeout(self, timeout: Option<Duration>) -> Self {
-        TlsConnector { timeout: timeout.filter(|it| !it.is_zero()), ..self }
+        TlsConnector { timeout: timeout.filter(|time| !time.is_zero()), ..self }
     }
 
     /// With `true` a connection that is lost is opened again for the next call, with no file read
@@ -108,7 +108,7 @@ impl TlsConnector {
         let server = TlsConnector { passphrase: None, ..self.clone() };
         let open = move || {
             let stream = server.open(&context, &name);
-            stream.map_err(|it| Error::connect_of(it.to_string(), it))
+            stream.map_err(|error| Error::connect_of(error.to_string(), error))
         };
         let builder = open()?.into_builder();
         let builder = builder.with_server(format!("{}:{}", self.host, self.port));
@@ -117,7 +117,7 @@ impl TlsConnector {
 
     /// The host without the brackets of an address, and without the zone of one.
     fn host(&self) -> &str {
-        let inner = self.host.strip_prefix('[').and_then(|it| it.strip_suffix(']'));
+        let inner = self.host.strip_prefix('[').and_then(|inner| inner.strip_suffix(']'));
         inner.unwrap_or(&self.host)
     }
 
@@ -148,17 +148,17 @@ impl TlsConnector {
         holds("certificate", certificate, &chain, "certificate")?;
         holds("key", key, &pem, "private key")?;
         let private_key = private_key(key, &pem, self.passphrase.as_deref())?;
-        let mut context = strict_context().map_err(|it| failed("OpenSSL", &it))?;
+        let mut context = strict_context().map_err(|error| failed("OpenSSL", &error))?;
         context
             .set_ca_file(authority)
-            .map_err(|it| failed(&format!("authority {}", authority.display()), &it))?;
+            .map_err(|error| failed(&format!("authority {}", authority.display()), &error))?;
         context
             .set_certificate_chain_file(certificate)
-            .map_err(|it| failed(&format!("certificate {}", certificate.display()), &it))?;
+            .map_err(|error| failed(&format!("certificate {}", certificate.display()), &error))?;
         context.set_private_key(&private_key).and_then(|()| context.check_private_key()).map_err(
-            |it| {
+            |error| {
                 let (certificate, key) = (certificate.display(), key.display());
-                failed(&format!("certificate {certificate}, key {key}"), &it)
+                failed(&format!("certificate {certificate}, key {key}"), &error)
             },
         )?;
         Ok(context.build())
@@ -197,7 +197,7 @@ fn is_plain(what: &str, path: &Path, pem: &[u8]) -> Result<()> {
     let is_encrypted = |line: &str| line.starts_with("Proc-Type:") && line.contains("ENCRYPTED");
     // The key may stand in the file of the certificate, and is read from its own.
     let text = String::from_utf8_lossy(pem);
-    let certificates = text.split("-----BEGIN ").filter(|it| it.contains("CERTIFICATE-----"));
+    let certificates = text.split("-----BEGIN ").filter(|block| block.contains("CERTIFICATE-----"));
     if certificates.flat_map(str::lines).any(is_encrypted) {
         let path = path.display();
         return Err(Error::connect(format!("{what} {path}: a block of it is encrypted")));
@@ -211,7 +211,7 @@ fn failed(what: &str, errors: &ErrorStack) -> Error {
 
 /// What OpenSSL says, without the places in its sources.
 fn reasons(errors: &ErrorStack) -> String {
-    let reasons: Vec<&str> = errors.errors().iter().filter_map(|it| it.reason()).collect();
+    let reasons: Vec<&str> = errors.errors().iter().filter_map(|one| one.reason()).collect();
     if reasons.is_empty() {
         return errors.to_string();
     }
@@ -274,11 +274,11 @@ struct Time {
 
 impl Time {
     fn new(timeout: Option<Duration>) -> Time {
-        Time { timeout, end: timeout.and_then(|it| Instant::now().checked_add(it)) }
+        Time { timeout, end: timeout.and_then(|time| Instant::now().checked_add(time)) }
     }
 
     fn over(&self) -> io::Error {
-        let seconds = self.timeout.map_or(0.0, |it| it.as_secs_f64());
+        let seconds = self.timeout.map_or(0.0, |time| time.as_secs_f64());
         io::Error::new(ErrorKind::TimedOut, format!("no answer within {seconds} seconds"))
     }
 
@@ -287,7 +287,7 @@ impl Time {
         let Some(end) = self.end else {
             return Ok(None);
         };
-        let left = end.checked_duration_since(Instant::now()).filter(|it| !it.is_zero());
+        let left = end.checked_duration_since(Instant::now()).filter(|left| !left.is_zero());
         left.map(Some).ok_or_else(|| self.over())
     }
 }
@@ -409,9 +409,9 @@ impl TlsStream {
     /// # Errors
     /// `ConnectError`: the handshake failed.
     pub fn from_ssl(ssl: Ssl, stream: TcpStream, timeout: Option<Duration>) -> Result<TlsStream> {
-        let time = Time::new(timeout.filter(|it| !it.is_zero()));
+        let time = Time::new(timeout.filter(|time| !time.is_zero()));
         let stream = TlsStream::connect(ssl, stream, time);
-        stream.map_err(|it| Error::connect_of(it.to_string(), it))
+        stream.map_err(|error| Error::connect_of(error.to_string(), error))
     }
 
     /// The builder of a client on this connection, which is looked at before each call.

@@ -79,7 +79,8 @@ const CALLS: [Call; 19] = [
 /// An option as a word: its name, `=`, and its value, in which the names of several uses are kept
 /// apart by `,`.
 fn option_word(name: &str, value: &str) -> String {
-    let is_name = |it: &str| it.bytes().all(|byte| byte.is_ascii_alphanumeric() || byte == b'_');
+    let is_name =
+        |name: &str| name.bytes().all(|byte| byte.is_ascii_alphanumeric() || byte == b'_');
     if name == "prehashed" && value.is_empty() {
         return name.into();
     }
@@ -91,7 +92,7 @@ fn option_word(name: &str, value: &str) -> String {
 
 /// A typed word as an option of this call, where it is one.
 fn option_of<'a>(name: &str, text: &'a str) -> Option<(&'a str, &'a str)> {
-    let (_, _, options) = CALLS.iter().find(|(it, _, _)| *it == name)?;
+    let (_, _, options) = CALLS.iter().find(|(call, _, _)| *call == name)?;
     let (option, value) = match text.split_once('=') {
         None if text == "prehashed" => (text, ""),
         parted => parted?,
@@ -108,7 +109,7 @@ fn parted<'a, 'b>(name: &str, texts: &'a [&'b str]) -> (&'a [&'b str], &'a [&'b 
         ("locate", options) if options.len() > 1 => (&texts[..0], options),
         ("locate", _) => return (texts, &[]),
         _ => {
-            let found = CALLS.iter().find(|(it, _, _)| *it == name);
+            let found = CALLS.iter().find(|(call, _, _)| *call == name);
             let own = found.map_or(0, |(_, kinds, _)| kinds.len());
             texts.split_at(own.min(texts.len()))
         }
@@ -156,7 +157,7 @@ impl Kind {
             }
             Kind::Number => {
                 let number = text.parse::<i32>().map(|number| number.to_string()).ok();
-                number.filter(|it| it == text).ok_or_else(|| {
+                number.filter(|number| number == text).ok_or_else(|| {
                     "it is not written in decimal digits, or has more than 32 bits".into()
                 })
             }
@@ -188,13 +189,13 @@ fn bytes_word(bytes: &[u8]) -> String {
     if bytes.is_empty() {
         return EMPTY.into();
     }
-    let digit = |it: u8| char::from(DIGITS[usize::from(it)]);
+    let digit = |nibble: u8| char::from(DIGITS[usize::from(nibble)]);
     bytes.iter().flat_map(|byte| [digit(byte >> 4), digit(byte & 15)]).collect()
 }
 
 /// The kinds of a call's words, which are so many.
 fn kinds_of(name: &str, count: usize) -> Result<Vec<Kind>> {
-    let Some((_, kinds, _)) = CALLS.iter().find(|(it, _, _)| *it == name) else {
+    let Some((_, kinds, _)) = CALLS.iter().find(|(call, _, _)| *call == name) else {
         return Err(Error::grammar(format!("there is no call {name}")));
     };
     let mut kinds = kinds.to_vec();
@@ -251,7 +252,7 @@ pub(crate) fn line(name: &str, words: &[Word<'_>]) -> Result<String> {
             let place = at + 1;
             return Err(Error::grammar(format!("{name}: word {place} after it is no option")));
         };
-        if !CALLS.iter().any(|(it, _, options)| *it == name && options.contains(option)) {
+        if !CALLS.iter().any(|(call, _, options)| *call == name && options.contains(option)) {
             return Err(Error::grammar(format!("{name}: there is no option {option}")));
         }
         line.push(' ');
@@ -267,7 +268,7 @@ pub(crate) fn line_of_texts(name: &str, texts: &[&str]) -> Result<String> {
 
 /// What the library says of a call as it was typed, where its name is that of a call.
 fn refusal_of(name: &str, texts: &[&str]) -> Option<String> {
-    CALLS.iter().find(|(it, _, _)| *it == name)?;
+    CALLS.iter().find(|(call, _, _)| *call == name)?;
     let mut line = name.to_string();
     for text in texts {
         line.push(' ');
@@ -350,7 +351,7 @@ mod tests {
 
     fn refused(made: Result<String>, wanted: &str) {
         match made {
-            Err(Error::GrammarError(it)) => assert_eq!(it.text(), wanted),
+            Err(Error::GrammarError(error)) => assert_eq!(error.text(), wanted),
             other => panic!("{other:?} in place of {wanted}"),
         }
     }

@@ -102,7 +102,8 @@ fn a_credential_stands_in_the_message_once() {
     batch.call("query", &[]).unwrap().call("query", &[]).unwrap();
     assert!(batch.send().is_err());
     let request = &sent.all()[0];
-    let found = |wanted: &[u8]| request.windows(wanted.len()).filter(|it| *it == wanted).count();
+    let found =
+        |wanted: &[u8]| request.windows(wanted.len()).filter(|window| *window == wanted).count();
     assert_eq!((found(b"alice"), found(b"s3cret")), (1, 1));
     assert!(!format!("{batch:?}").contains("s3cret"));
 }
@@ -147,7 +148,7 @@ fn each_answer_is_that_of_the_single_call() {
     assert_eq!(answers[1], one.call("sign", &[Word::Text("k"), Word::Bytes(b"x")]));
     assert_eq!(answers[2], one.call("activate", &[Word::Text("k")]));
     assert!(
-        matches!(&answers[2], Err(Error::ItemNotFound(it)) if it.message() == Some("no such key"))
+        matches!(&answers[2], Err(Error::ItemNotFound(details)) if details.message() == Some("no such key"))
     );
     let archived = one.do_operation("Archive", "1.2", vec![Item::new("UniqueIdentifier", "a")]);
     assert_eq!(answers[3].as_ref().unwrap().tree(), archived.ok());
@@ -238,7 +239,7 @@ fn a_batch_that_is_sent_again_has_other_ids() {
     for _ in 0..2 {
         assert!(batch.send().unwrap()[0].is_ok());
     }
-    let ids: Vec<_> = sent.all().iter().map(|it| item_ids(it)).collect();
+    let ids: Vec<_> = sent.all().iter().map(|request| item_ids(request)).collect();
     assert!(ids[0].len() == 1 && ids[1].len() == 1 && ids[0] != ids[1], "{ids:?}");
 }
 
@@ -300,8 +301,8 @@ fn an_item_of_another_operation_loses_the_connection() {
 fn what_is_no_batch() {
     let answer = Does::AnswerBatch(response_of_items(&[of_activate(0, "k")]));
     let (client, sent) = client(&[answer]);
-    let is_grammar = |it: Option<Error>, text: &str| match it {
-        Some(Error::GrammarError(it)) => assert!(it.text().starts_with(text), "{it}"),
+    let is_grammar = |error: Option<Error>, text: &str| match error {
+        Some(Error::GrammarError(error)) => assert!(error.text().starts_with(text), "{error}"),
         other => panic!("{other:?}"),
     };
     let mut batch = client.batch();

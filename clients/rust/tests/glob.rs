@@ -5,7 +5,7 @@ use metsuwan::*;
 
 /// The standard library's, with two types.
 fn halved(text: &str) -> Result<u8, std::num::ParseIntError> {
-    text.parse().map(|it: u8| it / 2)
+    text.parse().map(|number: u8| number / 2)
 }
 
 /// The crate's, with one.

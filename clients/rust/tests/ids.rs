@@ -31,7 +31,7 @@ fn each_operation_has_an_id_of_its_own() {
     let none = Register::default();
     client.register_secret(SecretDataType::Password, b"secret", none).unwrap();
     client.activate_key("k").unwrap();
-    let ids: Vec<_> = sent.all().iter().map(|it| item_id(it)).collect();
+    let ids: Vec<_> = sent.all().iter().map(|request| item_id(request)).collect();
     assert!(ids[..3].iter().all(Option::is_some), "{ids:?}");
     assert!(ids[0] != ids[1] && ids[0] != ids[2] && ids[1] != ids[2], "{ids:?}");
     assert_eq!(ids[3], None, "a call of words has none");

@@ -62,13 +62,15 @@ fn is_line<T: Debug>(line: &str, call: impl Fn(&Client<Recorder>) -> metsuwan::R
 
 #[test]
 fn options_of_sign() {
-    is_line("sign k 00", |it| it.sign_with("k", b"\0", Sign::default()));
-    is_line("sign k 00 hash=SHA384 padding=PSS algorithm=RSA", |it| {
+    is_line("sign k 00", |client| client.sign_with("k", b"\0", Sign::default()));
+    is_line("sign k 00 hash=SHA384 padding=PSS algorithm=RSA", |client| {
         let how = Sign::default().with_hash(HashingAlgorithm::SHA384);
         let how = how.with_padding(PaddingMethod::PSS).with_algorithm(CryptographicAlgorithm::RSA);
-        it.sign_with("k", b"\0", how)
+        client.sign_with("k", b"\0", how)
     });
-    is_line("sign k 00 prehashed", |it| it.sign_with("k", b"\0", Sign::default().prehashed()));
+    is_line("sign k 00 prehashed", |client| {
+        client.sign_with("k", b"\0", Sign::default().prehashed())
+    });
     let (client, sent) = client(vec![]);
     let both = Sign::default().prehashed().with_hash(HashingAlgorithm::MD5);
     let error = client.sign_with("k", b"\0", both).unwrap_err();
@@ -78,48 +80,50 @@ fn options_of_sign() {
 #[test]
 fn defaults_are_those_that_are_documented() {
     use CryptographicUsageMask as Usage;
-    is_line("sign k 00", |it| {
+    is_line("sign k 00", |client| {
         let how = Sign::default().with_hash(HashingAlgorithm::SHA256);
         let how = how.with_padding(PaddingMethod::PKCS1_v1_5);
-        it.sign_with("k", b"\0", how.with_algorithm(CryptographicAlgorithm::RSA))
+        client.sign_with("k", b"\0", how.with_algorithm(CryptographicAlgorithm::RSA))
     });
-    is_line("revoke k", |it| {
+    is_line("revoke k", |client| {
         let why = Revoke::default().with_reason(RevocationReasonCode::CessationOfOperation);
-        it.revoke_key_with("k", why)
+        client.revoke_key_with("k", why)
     });
-    is_line("create AES 256 n", |it| {
+    is_line("create AES 256 n", |client| {
         let uses = Create::default().with_usage(Usage::Encrypt | Usage::Decrypt);
-        it.create_with(CryptographicAlgorithm::AES, 256, "n", uses)
+        client.create_with(CryptographicAlgorithm::AES, 256, "n", uses)
     });
-    is_line("create-rsa 2048 a b", |it| {
+    is_line("create-rsa 2048 a b", |client| {
         let uses = CreateRsa::default().with_private_usage(Usage::Sign);
         let uses = uses.with_public_usage(Usage::Verify);
-        it.create_rsa_key_pair_with(2048, "a".into(), "b".into(), uses)
+        client.create_rsa_key_pair_with(2048, "a".into(), "b".into(), uses)
     });
 }
 
 #[test]
 fn options_of_other_calls() {
     use CryptographicUsageMask as Usage;
-    is_line("revoke k reason=KeyCompromise message=a%20b since=5", |it| {
+    is_line("revoke k reason=KeyCompromise message=a%20b since=5", |client| {
         let why = Revoke::default().with_reason(RevocationReasonCode::KeyCompromise);
-        it.revoke_key_with("k", why.with_message("a b").with_since(5))
+        client.revoke_key_with("k", why.with_message("a b").with_since(5))
     });
-    is_line("get k format=PKCS8 wrap=7", |it| {
-        it.get_key_with("k", Get::default().with_format(KeyFormatType::PKCS8).with_wrap("7"))
+    is_line("get k format=PKCS8 wrap=7", |client| {
+        client.get_key_with("k", Get::default().with_format(KeyFormatType::PKCS8).with_wrap("7"))
     });
-    is_line("create TRIPLE_DES 168 n usage=Sign,MacVerify", |it| {
+    is_line("create TRIPLE_DES 168 n usage=Sign,MacVerify", |client| {
         let uses = Create::default().with_usage(Usage::MacVerify | Usage::Sign);
-        it.create_with(CryptographicAlgorithm::TRIPLE_DES, 168, "n", uses)
+        client.create_with(CryptographicAlgorithm::TRIPLE_DES, 168, "n", uses)
     });
-    is_line("create AES 128 n", |it| it.create(CryptographicAlgorithm::AES, 128, "n"));
-    is_line("create-rsa 2048 a b private-usage=Decrypt public-usage=Encrypt,WrapKey", |it| {
+    is_line("create AES 128 n", |client| client.create(CryptographicAlgorithm::AES, 128, "n"));
+    is_line("create-rsa 2048 a b private-usage=Decrypt public-usage=Encrypt,WrapKey", |client| {
         let uses = CreateRsa::default().with_private_usage(Usage::Decrypt);
         let uses = uses.with_public_usage(Usage::Encrypt | Usage::WrapKey);
-        it.create_rsa_key_pair_with(2048, "a".into(), "b".into(), uses)
+        client.create_rsa_key_pair_with(2048, "a".into(), "b".into(), uses)
     });
-    is_line("attributes k State x-y%20z", |it| it.attributes_with("k", &["State", "x-y z"]));
-    is_line("attributes k", |it| it.attributes_with("k", &[]));
+    is_line("attributes k State x-y%20z", |client| {
+        client.attributes_with("k", &["State", "x-y z"])
+    });
+    is_line("attributes k", |client| client.attributes_with("k", &[]));
 }
 
 #[test]
@@ -127,17 +131,19 @@ fn keys_are_registered() {
     let (kind, format) = (KeyKind::SymmetricKey, KeyFormatType::Raw);
     let algorithm = CryptographicAlgorithm::AES;
     let aes = NewKey::new(kind, format, algorithm, 8, &[0xAB]);
-    is_line("register symmetric AB format=Raw algorithm=AES length=8", |it| it.register(&aes));
+    is_line("register symmetric AB format=Raw algorithm=AES length=8", |client| {
+        client.register(&aes)
+    });
     let words = "format=Raw algorithm=AES length=8 usage=Encrypt,Decrypt name=a%20b";
-    is_line(&format!("register symmetric AB {words}"), |it| {
+    is_line(&format!("register symmetric AB {words}"), |client| {
         let uses = CryptographicUsageMask::Encrypt | CryptographicUsageMask::Decrypt;
-        it.register_with(&aes, Register::default().with_usage(uses).with_name("a b"))
+        client.register_with(&aes, Register::default().with_usage(uses).with_name("a b"))
     });
     for (kind, word) in [(KeyKind::PublicKey, "public"), (KeyKind::PrivateKey, "private")] {
         let (format, algorithm) = (KeyFormatType::PKCS1, CryptographicAlgorithm::RSA);
         let key = NewKey::new(kind, format, algorithm, 2048, b"key");
         let line = format!("register {word} 6B6579 format=PKCS1 algorithm=RSA length=2048");
-        is_line(&line, |it| it.register(&key));
+        is_line(&line, |client| client.register(&key));
         assert!(format!("{key:?}").ends_with("length: 2048, material: of length 3 }"));
     }
 }
@@ -155,19 +161,25 @@ fn attributes_have_types() {
         (AttributeValue::ActivationDate(1_700_000_000), "activation=1700000000"),
     ];
     for (value, word) in all {
-        is_line(&format!("attribute-add k {word}"), |it| it.add_attribute("k", value));
-        is_line(&format!("attribute-modify k {word}"), |it| it.modify_attribute("k", value, None));
-        is_line(&format!("attribute-modify k {word} index=2"), |it| {
-            it.modify_attribute("k", value, Some(2))
+        is_line(&format!("attribute-add k {word}"), |client| client.add_attribute("k", value));
+        is_line(&format!("attribute-modify k {word}"), |client| {
+            client.modify_attribute("k", value, None)
+        });
+        is_line(&format!("attribute-modify k {word} index=2"), |client| {
+            client.modify_attribute("k", value, Some(2))
         });
     }
     let words = all.map(|(_, word)| word).join(" ");
-    is_line(&format!("locate where {words}"), |it| it.locate_with(&all.map(|(value, _)| value)));
-    is_line("locate", |it| it.locate_with(&[]));
-    is_line("attribute-delete k Object%20Group", |it| {
-        it.delete_attribute("k", "Object Group", None)
+    is_line(&format!("locate where {words}"), |client| {
+        client.locate_with(&all.map(|(value, _)| value))
     });
-    is_line("attribute-delete k x-a index=1", |it| it.delete_attribute("k", "x-a", Some(1)));
+    is_line("locate", |client| client.locate_with(&[]));
+    is_line("attribute-delete k Object%20Group", |client| {
+        client.delete_attribute("k", "Object Group", None)
+    });
+    is_line("attribute-delete k x-a index=1", |client| {
+        client.delete_attribute("k", "x-a", Some(1))
+    });
 }
 
 /// The names of the client are those of the library, and none is left out: the request by each name
@@ -177,22 +189,22 @@ fn attributes_have_types() {
 fn names_are_those_of_the_library() {
     macro_rules! are_named {
         ($($kind:ident $tag:literal $call:literal)+) => {$(
-            let by_name = |it: &$kind| {
-                library::request(&format!($call, it.name()), None).expect(it.name())
+            let by_name = |value: &$kind| {
+                library::request(&format!($call, value.name()), None).expect(value.name())
             };
             let request = by_name(&$kind::ALL[0]);
-            for it in $kind::ALL {
-                assert!(by_name(it) == with_number(&request, $tag, it.number()), "{}", it.name());
+            for value in $kind::ALL {
+                assert!(by_name(value) == with_number(&request, $tag, value.number()), "{}", value.name());
             }
             let is_taken = |number: &u32| takes(&with_number(&request, $tag, *number));
             let taken: Vec<u32> = (0..0x100).chain(0x8000_0000..0x8000_0010).filter(is_taken).collect();
-            assert_eq!(taken, $kind::ALL.iter().map(|it| it.number()).collect::<Vec<_>>());
+            assert_eq!(taken, $kind::ALL.iter().map(|value| value.number()).collect::<Vec<_>>());
         )+};
     }
     /// The request with this number in its first enumeration with this tag.
     fn with_number(request: &[u8], tag: u32, number: u32) -> Vec<u8> {
         let head = &enumeration(tag, 0)[..8];
-        let at = request.windows(8).position(|it| it == head).unwrap() + 8;
+        let at = request.windows(8).position(|window| window == head).unwrap() + 8;
         let mut made = request.to_vec();
         made[at..at + 4].copy_from_slice(&number.to_be_bytes());
         made
@@ -220,7 +232,7 @@ fn uses_have_the_bits_of_the_library() {
         let line = format!("create AES 256 n usage={usage}");
         let request = library::request(&line, None).expect(&line);
         let item = [&[0x42, 0, 0x0B, 2, 0, 0, 0, 4][..], &usage.bits().to_be_bytes()].concat();
-        assert!(request.windows(item.len()).any(|it| it == item), "{usage}");
+        assert!(request.windows(item.len()).any(|window| window == item), "{usage}");
     }
 }
 
@@ -247,8 +259,8 @@ fn certificates_are_registered() {
     };
     let registers =
         |sent: Vec<u8>, attributes| is_request(&sent, "Register", "1.0", &payload(attributes));
-    assert!(registers(sent_by(|it| it.register_certificate(der)), ""));
-    assert!(registers(sent_by(|it| it.register_certificate(pem.as_bytes())), ""));
+    assert!(registers(sent_by(|client| client.register_certificate(der)), ""));
+    assert!(registers(sent_by(|client| client.register_certificate(pem.as_bytes())), ""));
     let attributes = r#"
         {"tag":"Attribute","value":[
             {"tag":"AttributeName","type":"TextString","value":"Cryptographic Usage Mask"},
@@ -260,7 +272,10 @@ fn certificates_are_registered() {
                 {"tag":"NameType","type":"Enumeration","value":"0x00000001"}]}]}"#;
     let uses = CryptographicUsageMask::Verify | CryptographicUsageMask::CertificateSign;
     let options = Register::default().with_usage(uses).with_name("the \"root\"");
-    assert!(registers(sent_by(|it| it.register_certificate_with(der, options)), attributes));
+    assert!(registers(
+        sent_by(|client| client.register_certificate_with(der, options)),
+        attributes
+    ));
     let (client, sent) = client(vec![]);
     let error = client.register_certificate(b"none").unwrap_err();
     assert_eq!(error.to_string(), "GrammarError: the certificate is neither DER nor PEM");

@@ -74,7 +74,7 @@ fn a_thread_waits_for_one_that_is_given_back() {
 }
 
 fn is_closed(pool: &Pool<Script>) -> bool {
-    matches!(pool.client(), Err(Error::ConfigurationError(it)) if it.text() == "the pool is closed")
+    matches!(pool.client(), Err(Error::ConfigurationError(details)) if details.text() == "the pool is closed")
 }
 
 #[test]
@@ -118,6 +118,6 @@ fn a_connection_that_is_not_opened_takes_no_place() {
     assert!(pool.client().is_err());
     let size = Pool::new(0, || -> metsuwan::Result<Client<Script>> { unreachable!() });
     assert!(
-        matches!(size, Err(Error::ConfigurationError(it)) if it.text() == "a size is 1 or more")
+        matches!(size, Err(Error::ConfigurationError(details)) if details.text() == "a size is 1 or more")
     );
 }

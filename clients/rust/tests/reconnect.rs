@@ -16,32 +16,33 @@ const QUERY: u32 = 0x18;
 const SIGN: u32 = 0x21;
 
 /// What the log was told.
-type Told = Arc<Mutex<Vec<(EventKind, String, Option<&'static str>, String)>>>;
+type Seen = Arc<Mutex<Vec<(EventKind, String, Option<&'static str>, String)>>>;
 
-fn kinds(told: &Told) -> Vec<EventKind> {
-    told.lock().unwrap().iter().map(|it| it.0).collect()
+fn kinds(seen: &Seen) -> Vec<EventKind> {
+    seen.lock().unwrap().iter().map(|event| event.0).collect()
 }
 
-fn keep(told: &Told) -> impl FnMut(&Event<'_>) + Send + 'static {
-    let told = Arc::clone(told);
+fn keep(seen: &Seen) -> impl FnMut(&Event<'_>) + Send + 'static {
+    let seen = Arc::clone(seen);
     move |event| {
         assert!(event.elapsed < Duration::from_secs(1000));
         let text = event.to_string();
-        told.lock().unwrap().push((event.kind, event.operation.into(), event.error, text));
+        seen.lock().unwrap().push((event.kind, event.operation.into(), event.error, text));
     }
 }
 
 /// A client whose streams do these one after the other.
-fn client(streams: &[&[Does]]) -> (Client<Script>, Sent, Told) {
-    let (sent, told) = (Sent::default(), Told::default());
-    let mut scripts: VecDeque<_> = streams.iter().map(|it| Script::new(it, &sent)).collect();
+fn client(streams: &[&[Does]]) -> (Client<Script>, Sent, Seen) {
+    let (sent, seen) = (Sent::default(), Seen::default());
+    let mut scripts: VecDeque<_> =
+        streams.iter().map(|stream| Script::new(stream, &sent)).collect();
     let first = scripts.pop_front().unwrap();
-    let builder = ClientBuilder::new(first).with_log(keep(&told)).with_reconnect(move || {
+    let builder = ClientBuilder::new(first).with_log(keep(&seen)).with_reconnect(move || {
         // As a stream that is asked for a query, and has none.
         let none = || ClientBuilder::new(Script::new(&[], &Sent::default())).build().query();
         scripts.pop_front().ok_or_else(|| none().unwrap_err())
     });
-    (builder.build(), sent, told)
+    (builder.build(), sent, seen)
 }
 
 fn answer(operation: u32) -> Does {
@@ -54,17 +55,17 @@ fn is_read_error<T>(made: metsuwan::Result<T>) -> bool {
 
 #[test]
 fn what_changes_nothing_is_made_again() {
-    let (client, sent, told) = client(&[&[], &[answer(SIGN), answer(QUERY)]]);
+    let (client, sent, seen) = client(&[&[], &[answer(SIGN), answer(QUERY)]]);
     client.sign("k", b"x").unwrap();
     client.query().unwrap();
     let requests = sent.all();
     assert!(requests.len() == 3 && requests[0] == requests[1]);
     use EventKind::{Call, Reopened, Repeated};
-    assert_eq!(kinds(&told), [Repeated, Reopened, Call, Call]);
-    let told = told.lock().unwrap();
-    assert_eq!(told[0].3, "end of input: the call is made again");
-    assert_eq!((told[0].1.as_str(), told[0].2), ("sign", Some("ResponseReadError")));
-    assert_eq!(told[1].3, "the connection was lost, and is opened again");
+    assert_eq!(kinds(&seen), [Repeated, Reopened, Call, Call]);
+    let seen = seen.lock().unwrap();
+    assert_eq!(seen[0].3, "end of input: the call is made again");
+    assert_eq!((seen[0].1.as_str(), seen[0].2), ("sign", Some("ResponseReadError")));
+    assert_eq!(seen[1].3, "the connection was lost, and is opened again");
 }
 
 #[test]
@@ -82,14 +83,14 @@ fn an_operation_that_changes_nothing_is_made_again() {
 #[test]
 fn what_may_have_been_done_is_not() {
     for stream in [&[][..], &[Does::RefuseWrite], &[Does::Fail(ErrorKind::ConnectionReset)]] {
-        let (client, sent, told) = client(&[stream, &[answer(ACTIVATE)]]);
+        let (client, sent, seen) = client(&[stream, &[answer(ACTIVATE)]]);
         let before = sent.count();
         assert!(client.activate_key("k").unwrap_err().is_lost());
         assert!(client.is_open());
         client.activate_key("k").unwrap();
         assert!(sent.count() - before <= 2);
         use EventKind::{Call, Reopened};
-        assert_eq!(kinds(&told), [Call, Reopened, Call]);
+        assert_eq!(kinds(&seen), [Call, Reopened, Call]);
     }
 }
 
@@ -142,10 +143,10 @@ fn what_is_late_or_no_message_is_not_made_again() {
 
 #[test]
 fn a_stream_that_is_not_opened_again() {
-    let (client, _, told) = client(&[&[]]);
+    let (client, _, seen) = client(&[&[]]);
     assert!(is_read_error(client.query()));
     assert!(client.is_open() && is_read_error(client.query()));
-    assert_eq!(kinds(&told).last(), Some(&EventKind::Call));
+    assert_eq!(kinds(&seen).last(), Some(&EventKind::Call));
     assert!(client.into_inner().is_none());
     let bare = ClientBuilder::new(Script::new(&[], &Sent::default())).build();
     assert!(bare.is_open() && bare.query().is_err() && !bare.is_open());
@@ -196,25 +197,25 @@ fn a_call_that_panics_is_followed_by_another_stream() {
 fn the_log_tells_of_each_call_and_shows_no_value() {
     let no = ttlv::failure(ACTIVATE, 1, "no such key: the key");
     let signed = response(SIGN, &[identifier("the key"), bytes(0x4200C3, b"signature")]);
-    let (client, _, told) = client(&[&[Does::Answer(signed), Does::Answer(no), answer(ENCRYPT)]]);
+    let (client, _, seen) = client(&[&[Does::Answer(signed), Does::Answer(no), answer(ENCRYPT)]]);
     client.sign("the key", b"the data").unwrap();
     client.activate_key("the key").unwrap_err();
     let items = vec![Item::new("UniqueIdentifier", "the key")];
     client.do_operation("Encrypt", "1.2", items).unwrap();
     client.call("sign the key", &[]).unwrap_err();
     client.query().unwrap_err();
-    let told = told.lock().unwrap();
+    let seen = seen.lock().unwrap();
     let said = |at: usize, operation: &str, error, text: &str| {
-        let (kind, name, found, words) = &told[at];
+        let (kind, name, found, words) = &seen[at];
         assert_eq!((*kind, name.as_str(), *found), (EventKind::Call, operation, error));
         assert!(words.starts_with(text) && words.ends_with(" ms"), "{words}");
     };
     said(0, "sign", None, "sign: status 0, ");
-    assert!(told[0].3.contains(" bytes sent, ") && told[0].3.contains(" read, "));
+    assert!(seen[0].3.contains(" bytes sent, ") && seen[0].3.contains(" read, "));
     said(1, "activate", Some("ItemNotFound"), "activate: status 1, ");
     said(2, "Encrypt", None, "Encrypt: status 0, ");
-    said(told.len() - 1, "query", Some("ResponseReadError"), "query: ResponseReadError, ");
-    let all: String = told.iter().map(|it| format!("{it:?}")).collect();
+    said(seen.len() - 1, "query", Some("ResponseReadError"), "query: ResponseReadError, ");
+    let all: String = seen.iter().map(|event| format!("{event:?}")).collect();
     for secret in ["the key", "the%20key", "the data", "signature"] {
         assert!(!all.contains(secret), "{all}");
     }

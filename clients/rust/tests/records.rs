@@ -20,15 +20,15 @@ fn asks_for(operation: &str) -> String {
     )
 }
 
-type Told = Arc<Mutex<Vec<String>>>;
+type Seen = Arc<Mutex<Vec<String>>>;
 
-fn client(does: &[Does]) -> (Client<Script>, Told) {
-    let told = Told::default();
-    let kept = Arc::clone(&told);
+fn client(does: &[Does]) -> (Client<Script>, Seen) {
+    let seen = Seen::default();
+    let kept = Arc::clone(&seen);
     let builder = ClientBuilder::new(Script::new(does, &Sent::default()))
         .with_credentials("alice", "geheim")
         .with_record(move |line| kept.lock().unwrap().push(line.to_string()));
-    (builder.build(), told)
+    (builder.build(), seen)
 }
 
 fn done(operation: u32) -> Does {
@@ -36,42 +36,42 @@ fn done(operation: u32) -> Does {
 }
 
 /// The words of the last line.
-fn words(told: &Told) -> [String; 3] {
-    let told = told.lock().unwrap();
-    let line = told.last().unwrap().strip_suffix('\n').unwrap();
+fn words(seen: &Seen) -> [String; 3] {
+    let seen = seen.lock().unwrap();
+    let line = seen.last().unwrap().strip_suffix('\n').unwrap();
     line.split(' ').map(str::to_string).collect::<Vec<_>>().try_into().unwrap()
 }
 
 #[test]
 fn a_call_is_answered_again() {
-    let (client, told) = client(&[done(0x12), done(0x12)]);
+    let (client, seen) = client(&[done(0x12), done(0x12)]);
     client.call("activate", &[Word::Text("k")]).unwrap();
     client.do_operation("Activate", "1.0", vec![Item::new("UniqueIdentifier", "k")]).unwrap();
     // (That of the operation has no ID, but in its response.)
-    let [word, request, answer] = words(&told);
+    let [word, request, answer] = words(&seen);
     assert_eq!((word.as_str(), &request), ("raw", &asks_for("12")));
-    let digits = answer.as_bytes().chunks(2).map(|it| std::str::from_utf8(it).unwrap());
-    let answer: Vec<u8> = digits.map(|it| u8::from_str_radix(it, 16).unwrap()).collect();
+    let digits = answer.as_bytes().chunks(2).map(|pair| std::str::from_utf8(pair).unwrap());
+    let answer: Vec<u8> = digits.map(|pair| u8::from_str_radix(pair, 16).unwrap()).collect();
     assert_eq!(answer.len(), response(0x12, &[identifier("k")]).len() + 16);
     let (status, _) = library::answer(&format!("raw {request}"), &answer);
     assert_eq!(status, library::Status::Answered);
-    let told = told.lock().unwrap();
-    assert!(told.len() == 2 && told[0].starts_with(&format!("raw {request} ")));
+    let seen = seen.lock().unwrap();
+    assert!(seen.len() == 2 && seen[0].starts_with(&format!("raw {request} ")));
 }
 
 #[test]
 fn an_operation_that_is_no_call_is_a_message() {
-    let (client, told) = client(&[done(0x15)]);
+    let (client, seen) = client(&[done(0x15)]);
     client.do_operation("Archive", "1.0", vec![Item::new("UniqueIdentifier", "k")]).unwrap();
-    let [word, request, _] = words(&told);
+    let [word, request, _] = words(&seen);
     assert_eq!((word.as_str(), request), ("message", asks_for("15")));
 }
 
 #[test]
 fn a_batch_is_a_message_without_its_credential() {
-    let (client, told) = client(&[Does::Answer(failure(0x12, 5, "no batches"))]);
+    let (client, seen) = client(&[Does::Answer(failure(0x12, 5, "no batches"))]);
     client.batch().call("activate", &[Word::Text("k")]).unwrap().send().unwrap();
-    let [word, request, answer] = words(&told);
+    let [word, request, answer] = words(&seen);
     let digits = request.split_once("4200930800000008").unwrap().1;
     assert!(word == "message" && answer.contains(&format!("4200930800000008{}", &digits[..16])));
     assert!(!request.contains("67656865696D"));
@@ -81,8 +81,8 @@ fn a_batch_is_a_message_without_its_credential() {
 fn what_is_refused_is_recorded_and_what_is_lost_is_not() {
     let refusal = Does::Answer(failure(0x12, 12, "no"));
     for (does, count) in [(refusal, 1), (Does::Fail(ErrorKind::ConnectionReset), 0)] {
-        let (client, told) = client(&[does]);
+        let (client, seen) = client(&[does]);
         client.call("activate", &[Word::Text("k")]).unwrap_err();
-        assert_eq!(told.lock().unwrap().len(), count);
+        assert_eq!(seen.lock().unwrap().len(), count);
     }
 }

@@ -1,4 +1,4 @@
-//! Sessions over TLS with servers that make it hard. tools/live/rust/unit.sh starts them, and says
+//! Sessions over TLS with servers that make it hard. tests/live/unit.sh starts them, and says
 //! where they are: METSUWAN_FAKES is the file of their ports, METSUWAN_CERTS the folder of their
 //! certificates.
 use metsuwan::{BatchErrorContinuationOption, Error, EventKind, Item, Pool, Result, Word};
@@ -23,7 +23,7 @@ fn port_of(name: &str) -> u16 {
     let path = std::env::var_os("METSUWAN_FAKES").expect("METSUWAN_FAKES");
     let ports = std::fs::read_to_string(path).unwrap();
     let mut found = ports.lines().filter_map(|line| line.split_once(' '));
-    let (_, port) = found.find(|(it, _)| *it == name).expect("a fake of this name");
+    let (_, port) = found.find(|(fake, _)| *fake == name).expect("a fake of this name");
     port.parse().unwrap()
 }
 
@@ -114,7 +114,7 @@ fn client_in_time(timeout: Duration) -> Result<TlsClient> {
 #[test]
 #[ignore = "it needs the fake servers"]
 fn each_call_has_its_own_deadline() {
-    let in_time = |it| Some((it, client_in_time(Duration::from_secs(it)).ok()?));
+    let in_time = |seconds| Some((seconds, client_in_time(Duration::from_secs(seconds)).ok()?));
     let (seconds, client) = [2, 10, 40].into_iter().find_map(in_time).expect("one that is in time");
     let started = Instant::now();
     let error = client.sign("never", b"x").unwrap_err();
@@ -133,9 +133,10 @@ fn a_flood_of_session_tickets_ends_with_the_deadline() {
     let in_time = |fake: &str, seconds: u64| {
         let connector = connector(fake, "localhost", "client");
         let client = connector.with_timeout(Some(Duration::from_secs(seconds))).connect();
-        client.ok().map(|it| it.build())
+        client.ok().map(|builder| builder.build())
     };
-    let open = |fake: &str| [2, 10, 40].into_iter().find_map(|it| in_time(fake, it)).unwrap();
+    let open =
+        |fake: &str| [2, 10, 40].into_iter().find_map(|seconds| in_time(fake, seconds)).unwrap();
     let error = open("tickets").query().unwrap_err();
     assert_eq!(error.details().io_kind(), Some(ErrorKind::TimedOut), "{error}");
     let client = open("tickets_after");
@@ -168,7 +169,10 @@ fn tls_that_the_caller_has_set_up() {
     let client = open("certificate", None).unwrap().into_builder().build();
     assert_eq!(client.query().unwrap().vendor_identification.as_deref(), Some("alice"));
     let error = open("other/server", None).unwrap_err();
-    assert!(matches!(&error, Error::ConnectError(it) if it.text().contains("issuer")), "{error}");
+    assert!(
+        matches!(&error, Error::ConnectError(details) if details.text().contains("issuer")),
+        "{error}"
+    );
     let error = open("unanswered", Some(Duration::from_secs(1))).unwrap_err();
     assert_eq!(error.details().io_kind(), Some(ErrorKind::TimedOut));
     let client = open("two", Some(LONG)).unwrap().into_builder().build();
@@ -272,7 +276,7 @@ fn a_host_is_a_name_or_an_address() {
 fn settings_that_are_missing() {
     let certificate = folder().join("client.pem");
     let key = folder().join("client.key");
-    let fails = |it: TlsConnector| it.connect().map(drop).unwrap_err().to_string();
+    let fails = |connector: TlsConnector| connector.connect().map(drop).unwrap_err().to_string();
     let bare = TlsConnector::new("localhost", port_of("good"));
     assert_eq!(fails(bare.clone()), "ConfigurationError: certificate is not given");
     let one = bare.with_certificate(certificate, key);
@@ -283,7 +287,9 @@ fn settings_that_are_missing() {
 #[ignore = "it needs the fake servers"]
 fn an_encrypted_key() {
     let connector = connector("certificate", "localhost", "encrypted");
-    let with = |it: TlsConnector| it.connect().map(|it| it.build().query().unwrap());
+    let with = |connector: TlsConnector| {
+        connector.connect().map(|connector| connector.build().query().unwrap())
+    };
     let server = with(connector.clone().with_passphrase("geheim & co")).unwrap();
     assert_eq!(server.vendor_identification.as_deref(), Some("alice"));
     let long = "x".repeat(100_000);
@@ -298,18 +304,18 @@ fn an_encrypted_key() {
 }
 
 /// What a log was told.
-type Told = Arc<Mutex<Vec<(EventKind, String)>>>;
+type Seen = Arc<Mutex<Vec<(EventKind, String)>>>;
 
 /// A client that reconnects, as this user, and its log.
-fn reconnecting(fake: &str, user: &str) -> (TlsClient, Told) {
-    let told = Told::default();
-    let log = Arc::clone(&told);
+fn reconnecting(fake: &str, user: &str) -> (TlsClient, Seen) {
+    let seen = Seen::default();
+    let log = Arc::clone(&seen);
     let builder = connector(fake, "localhost", "client").with_reconnect(true).connect().unwrap();
     let builder = builder.with_credentials(user, "");
     let client = builder
         .with_log(move |event| log.lock().unwrap().push((event.kind, event.to_string())))
         .build();
-    (client, told)
+    (client, seen)
 }
 
 /// How many requests the server had of this user.
@@ -321,18 +327,18 @@ fn came(client: &TlsClient) -> String {
 #[ignore = "it needs the fake servers"]
 fn where_nothing_was_sent_the_call_is_made_again() {
     use EventKind::{Call, Reopened, Repeated};
-    let (client, told) = reconnecting("end_after", "Rust");
+    let (client, seen) = reconnecting("end_after", "Rust");
     for _ in 0..3 {
         client.activate_key("k").unwrap();
     }
-    let told = told.lock().unwrap();
-    let kinds: Vec<_> = told.iter().map(|it| it.0).collect();
+    let seen = seen.lock().unwrap();
+    let kinds: Vec<_> = seen.iter().map(|event| event.0).collect();
     assert_eq!(kinds, [Call, Repeated, Reopened, Call, Repeated, Reopened, Call]);
     let server = format!("localhost:{}: ", port_of("end_after"));
     let wanted = format!("{server}end of input; nothing was sent: the call is made again");
-    assert_eq!(told[1].1, wanted);
-    assert_eq!(told[2].1, format!("{server}the connection was lost, and is opened again"));
-    assert!(told[3].1.starts_with(&format!("{server}activate: status 0, ")), "{}", told[3].1);
+    assert_eq!(seen[1].1, wanted);
+    assert_eq!(seen[2].1, format!("{server}the connection was lost, and is opened again"));
+    assert!(seen[3].1.starts_with(&format!("{server}activate: status 0, ")), "{}", seen[3].1);
 }
 
 #[test]
@@ -349,9 +355,9 @@ fn what_changes_nothing_is_made_again() {
     assert!(matches!(client.activate_key("k"), Err(Error::ResponseReadError(_))));
     assert!(client.is_open());
     assert_eq!(came(&client), "2");
-    let (client, told) = reconnecting("end", "Rust");
+    let (client, seen) = reconnecting("end", "Rust");
     assert!(matches!(client.query(), Err(Error::ResponseReadError(_))));
-    assert_eq!(told.lock().unwrap().len(), 3);
+    assert_eq!(seen.lock().unwrap().len(), 3);
 }
 
 #[test]
@@ -366,7 +372,7 @@ fn several_calls_in_one_message() {
     batch.call("get", &[Word::Text("PublicKey.EC")]).unwrap();
     let answers = batch.send().unwrap();
     let (good, keys) = (self::client("good"), self::client("transparent"));
-    let json = |it: &Result<metsuwan::Answer>| it.as_ref().unwrap().json().clone();
+    let json = |answer: &Result<metsuwan::Answer>| answer.as_ref().unwrap().json().clone();
     assert_eq!(json(&answers[0]), json(&good.call("query", &[])));
     assert_eq!(json(&answers[1]), json(&good.call("sign", &[Word::Text("k"), Word::Bytes(b"x")])));
     let archived = answers[2].as_ref().unwrap().tree();
@@ -409,8 +415,10 @@ fn responses_that_are_none_to_a_batch() {
     for fake in ["rubbish", "half", "batch_two", "batch_none", "other_operation", "echo", "deep"] {
         let (answers, client) = send(fake, &["a", "k"]);
         // Where it has an item for each of them, each is lost.
-        let is_lost = |it: &Error| it.is_lost();
-        let each = |it: Vec<Result<_>>| it.iter().all(|it| it.as_ref().is_err_and(is_lost));
+        let is_lost = |error: &Error| error.is_lost();
+        let each = |answers: Vec<Result<_>>| {
+            answers.iter().all(|answer| answer.as_ref().is_err_and(is_lost))
+        };
         assert!(answers.map_or_else(|error| is_lost(&error), each), "{fake}");
         assert!(!client.is_open(), "{fake}");
     }

@@ -160,13 +160,15 @@ fn calls_have_types() {
     assert_eq!(client.locate("n").unwrap(), ["6", "7"]);
     assert!(client.locate("n").unwrap().is_empty());
     let attributes = client.attributes("6").unwrap();
-    let is_it = |it: &metsuwan::Attribute| {
-        it.name == "x-a" && it.index == Some(3) && it.value.to_string() == "{\"Integer\":7}"
+    let is_it = |attribute: &metsuwan::Attribute| {
+        attribute.name == "x-a"
+            && attribute.index == Some(3)
+            && attribute.value.to_string() == "{\"Integer\":7}"
     };
     assert!(attributes.len() == 1 && is_it(&attributes[0]));
     assert_eq!(client.create_aes(256, "n").unwrap(), "8");
     let versions = client.discover().unwrap();
-    let versions: Vec<_> = versions.iter().map(|it| (it.major, it.minor)).collect();
+    let versions: Vec<_> = versions.iter().map(|version| (version.major, version.minor)).collect();
     assert_eq!(versions, [(1, 2), (1, 1)]);
     assert_eq!(client.rng_retrieve(2).unwrap().data, [0, 0xFF]);
     let renamed = client.rename_key("6", "n".into()).unwrap();
@@ -234,21 +236,21 @@ fn is_lost(answers: &[Vec<u8>], is_it: fn(&Error) -> bool) {
 fn what_loses_the_connection() {
     let later = response(QUERY, &[]);
     let other = response(SIGN, &[identifier("other"), bytes(0x4200C3, b"signature")]);
-    is_lost(&[other, later.clone()], |it| {
-        matches!(it, Error::OtherObject(_))
-            && it.kind() == "OtherObject"
-            && it.details().text() == "answer for another object"
+    is_lost(&[other, later.clone()], |error| {
+        matches!(error, Error::OtherObject(_))
+            && error.kind() == "OtherObject"
+            && error.details().text() == "answer for another object"
     });
-    is_lost(&[b"HTTP/1.1 400 Bad".to_vec(), later.clone()], |it| {
-        matches!(it, Error::DeserializeError(_)) && it.details().text() == "not a structure"
+    is_lost(&[b"HTTP/1.1 400 Bad".to_vec(), later.clone()], |error| {
+        matches!(error, Error::DeserializeError(_)) && error.details().text() == "not a structure"
     });
     let good = response(SIGN, &[identifier("mine"), bytes(0x4200C3, b"signature")]);
-    is_lost(&[good[..good.len() - 1].to_vec(), later.clone()], |it| {
-        matches!(it, Error::ResponseReadError(_))
-            && it.details().text() == "end of input"
-            && it.details().io_kind() == Some(io::ErrorKind::UnexpectedEof)
+    is_lost(&[good[..good.len() - 1].to_vec(), later.clone()], |error| {
+        matches!(error, Error::ResponseReadError(_))
+            && error.details().text() == "end of input"
+            && error.details().io_kind() == Some(io::ErrorKind::UnexpectedEof)
     });
-    is_lost(&[vec![], later], |it| matches!(it, Error::ResponseReadError(_)));
+    is_lost(&[vec![], later], |error| matches!(error, Error::ResponseReadError(_)));
 }
 
 #[test]

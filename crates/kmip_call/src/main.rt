@@ -8,30 +8,13 @@
 //! says.
 #![tactic(auto)]
 
-mod command;
-mod exchange;
-mod file_words;
-mod help;
-mod last_error;
-mod program;
-mod record;
-mod refusal;
-mod requested;
-mod status;
-#[cfg(test)]
-mod tests;
-mod tree_words;
-mod wire;
-
-use command::{Command, Order, command_of};
-use file_words::{file_in, with_contents};
-use help::{grammar_json, help_text};
+use kmip_caller::{
+    CLOSED_STREAM, Command, LastError, NO_FILE, NOT_UTF8, Order, Status, WRONG_LIMIT, Watched,
+    command_of, file_in, grammar_json, help_text, refuse, run, with_contents,
+};
 use kmip_link::{MemorySink, Sink, StdSink, StdSource};
 use kmip_wire::{List, OutOfMemory, Text};
 use kmip_words::{Ending, number_of};
-use last_error::{LastError, Watched};
-use refusal::{CLOSED_STREAM, NO_FILE, NOT_UTF8, WRONG_LIMIT, refuse};
-use status::Status;
 use std::env::{self, VarError};
 use std::fs::{self, File, OpenOptions};
 use std::io::{self, ErrorKind, Write};
@@ -190,14 +173,14 @@ fn perform_over<F: Sink>(rt: &HostRuntime, order: &Order, kept: &mut F) -> Statu
         stream: stdin,
         last: &last,
     });
-    let mut told = StdSink::new(rt.stderr());
-    program::run(
+    let mut errors = StdSink::new(rt.stderr());
+    run(
         rt.alloc(),
         order,
         &mut wire,
         &mut source,
         kept,
-        &mut told,
+        &mut errors,
         &last,
     )
 }

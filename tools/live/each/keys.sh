@@ -3,10 +3,10 @@
 if [[ $client == openssl ]]; then return; fi
 fake keeper
 export LC_ALL=C
-for it in 'rsa:genrsa 2048' 'rsa1:genrsa -traditional 2048' 'ec:ecparam -name prime256v1 -genkey' \
+for kind in 'rsa:genrsa 2048' 'rsa1:genrsa -traditional 2048' 'ec:ecparam -name prime256v1 -genkey' \
     'p384:genpkey -algorithm EC -pkeyopt ec_paramgen_curve:P-384' 'ed:genpkey -algorithm ED25519'; do
-    read -ra words <<<"${it#*:}"
-    openssl "${words[@]}" >"${it%%:*}.key" 2>"$said" && openssl pkey -in "${it%%:*}.key" -pubout >"${it%%:*}.pub" 2>"$said"
+    read -ra words <<<"${kind#*:}"
+    openssl "${words[@]}" >"${kind%%:*}.key" 2>"$said" && openssl pkey -in "${kind%%:*}.key" -pubout >"${kind%%:*}.pub" 2>"$said"
 done
 registered() { # WHAT CALL FILE WORD..: it is, and its identifier is in `id`
     call_is "$2 $1" 0 "${@:2}"
@@ -17,11 +17,11 @@ same() { # WHAT PEM FLAG..: what is got as PEM is this key
         [[ $(openssl pkey "${@:3}" -in got.pem -pubout 2>>"$said") == "$(<"$2")" ]]
     verdict "$1"
 }
-for it in rsa rsa1 ec p384; do
-    registered "of $it" register-private "$it.key" "name=$it" usage=Sign
-    same "and got as PEM: the private key $it" "$it.pub"
-    registered "of $it" register-public "$it.pub"
-    same "and got as PEM: the public key $it" "$it.pub" -pubin
+for kind in rsa rsa1 ec p384; do
+    registered "of $kind" register-private "$kind.key" "name=$kind" usage=Sign
+    same "and got as PEM: the private key $kind" "$kind.pub"
+    registered "of $kind" register-public "$kind.pub"
+    same "and got as PEM: the public key $kind" "$kind.pub" -pubin
 done
 openssl rsa -in rsa.key -RSAPublicKey_out -out rsa1.pub1 2>"$said"
 registered 'of PKCS#1' register-public rsa1.pub1
@@ -61,11 +61,11 @@ refused 'a secret of another kind' register-secret secret kind=Seeds
 refused 'PEM as the bytes of a key' register private "$(od -An -v -tx1 rsa.key | tr -d ' \n')" format=PKCS8 algorithm=RSA length=2048
 says 'it is said to be PEM' PEM
 fake transparent
-for it in RSA EC; do
-    client_run call pem "PrivateKey.$it" >private.pem 2>"$said" && openssl pkey -in private.pem -check -noout >"$said" 2>&1
-    verdict "openssl reads a private key of $it whose parts are told"
-    client_run call pem "PublicKey.$it" >public.pem 2>"$said"
-    if [[ $it == RSA ]]; then openssl rsa -RSAPublicKey_in -in public.pem -pubout; else openssl pkey -pubin -in public.pem; fi >public 2>>"$said" &&
+for kind in RSA EC; do
+    client_run call pem "PrivateKey.$kind" >private.pem 2>"$said" && openssl pkey -in private.pem -check -noout >"$said" 2>&1
+    verdict "openssl reads a private key of $kind whose parts are told"
+    client_run call pem "PublicKey.$kind" >public.pem 2>"$said"
+    if [[ $kind == RSA ]]; then openssl rsa -RSAPublicKey_in -in public.pem -pubout; else openssl pkey -pubin -in public.pem; fi >public 2>>"$said" &&
         openssl pkey -in private.pem -pubout 2>>"$said" | cmp - public >>"$said" 2>&1
     verdict 'and the public one, which is its own'
 done

@@ -31,7 +31,7 @@ impl std::error::Error for Failure {}
 /// The line of an error.
 pub fn line(kind: &str, text: &str) -> Json {
     let members = [("error", kind), ("text", text)];
-    Json::Object(members.map(|(name, it)| (name.into(), Json::text(it))).into())
+    Json::Object(members.map(|(name, text)| (name.into(), Json::text(text))).into())
 }
 
 /// Writes a line to standard error, where that can be written: the status tells of it, too.
@@ -46,7 +46,7 @@ pub fn wrong(text: &str) -> Failure {
 
 /// The arguments of the program.
 pub fn arguments() -> Result<Vec<String>, Failure> {
-    let words = env::args_os().skip(1).map(|it| it.into_string().ok());
+    let words = env::args_os().skip(1).map(|word| word.into_string().ok());
     words.collect::<Option<_>>().ok_or_else(|| wrong("a word is not UTF-8"))
 }
 
@@ -56,7 +56,7 @@ pub fn server_of(words: &[String]) -> Result<Option<(TlsConnector, &[String])>, 
     let [host, port, certificate, key, authority, rest @ ..] = words else {
         return Ok(None);
     };
-    let port = port.parse().ok().filter(|it| *it != 0);
+    let port = port.parse().ok().filter(|port| *port != 0);
     let port = port.ok_or_else(|| wrong("PORT is no number of 1 to 65535"))?;
     let server =
         TlsConnector::new(host, port).with_certificate(certificate, key).with_authority(authority);

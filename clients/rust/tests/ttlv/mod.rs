@@ -62,8 +62,8 @@ pub fn failure(operation: u32, reason: u32, why: &str) -> Vec<u8> {
 
 /// The Unique Batch Item IDs of eight bytes that a message has.
 pub fn item_ids(message: &[u8]) -> Vec<[u8; 8]> {
-    let items = message.windows(16).filter(|it| it.starts_with(&ID_HEAD));
-    items.map(|it| it[8..].try_into().unwrap()).collect()
+    let items = message.windows(16).filter(|window| window.starts_with(&ID_HEAD));
+    items.map(|window| window[8..].try_into().unwrap()).collect()
 }
 
 /// The head of a Unique Batch Item ID of eight bytes (KMIP 1.2, 9.1.1).

@@ -6,8 +6,8 @@ use Rattle.kmip_words.proofs.Replies.{part_within, reply_is}
 use Rattle.kmip_words.proofs.AnswerLines.{due_line, due_ending, due_json}
 use Rattle.kmip_words.proofs.offline.answer_of.Goals as goal
 
-pub slice_bounds-tell-end : goal.slice_bounds-tell-end
-slice_bounds-tell-end c =
+pub slice_bounds-add_line-end : goal.slice_bounds-add_line-end
+slice_bounds-add_line-end c =
     sym (length-take-le c.read_response-answer.result.taken c.args.response.now
     (part_within c.read_response-answer.result.taken c.args.response.now c.args.settings.now.limit
     (rw c.limit-limit.ensures at c.read_response-answer.ensures.taken)))

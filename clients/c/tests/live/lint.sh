@@ -1,0 +1,18 @@
+# shellcheck shell=bash
+# What compilers and linters say of the sources in C: nothing.
+cd "$top/clients/c" || return
+flags=(-std=c11 -Wall -Wextra -Wconversion -Wshadow -Wpedantic -Wstrict-prototypes -Wformat=2)
+compile=(-Werror -c -o "$work/it.o")
+for file in *.c; do
+    linter_says "gcc says nothing of $file" gcc ' 12\.' gcc gcc "${flags[@]}" -O2 -fanalyzer "${compile[@]}" "$file"
+    linter_says "gcc says nothing of $file with GNU's calls" gcc ' 12\.' gcc gcc -D_GNU_SOURCE "${flags[@]}" -O1 "${compile[@]}" "$file"
+    linter_says "clang says nothing of $file" clang ' 14\.' clang clang "${flags[@]}" "${compile[@]}" "$file"
+done
+# varFuncNullUB: NULL is a pointer here, and POSIX has it so.
+linter_says 'cppcheck finds nothing' cppcheck ' 2\.10' cppcheck cppcheck -q --std=c11 --error-exitcode=1 \
+    --enable=warning,performance,portability --suppress=missingIncludeSystem \
+    --suppress=varFuncNullUB ./*.c
+linter_says 'clang-tidy finds nothing' clang-tidy ' 14\.' clang-tidy \
+    clang-tidy --quiet --warnings-as-errors='*' ./*.c -- -std=c11
+linter_says 'the layout is that of .clang-format' clang-format ' 14\.' clang-format \
+    clang-format --style=file:.clang-format --dry-run -Werror ./*.c ./*.h tests/*.c tests/*.h tests/*/*.c ../web/tests/*.c

@@ -1,0 +1,122 @@
+# shellcheck shell=bash disable=SC1091
+# How the harness builds the provider for OpenSSL, and what its case files have. It has no program `call`, so that the case
+# files of tools/live/each are not run with it.
+. "$top/clients/c/tests/live/client.sh"
+
+# What the client in C needs, and OpenSSL 3: its headers and its command.
+client_needs() {
+    for tool in gcc make; do command -v "$tool" >/dev/null || echo "$tool"; done
+    links $'#include <openssl/opensslv.h>\n#if OPENSSL_VERSION_MAJOR < 3\n#error\n#endif' -lssl -lcrypto ||
+        echo 'libssl-dev of OpenSSL 3'
+    [[ $(openssl version 2>/dev/null) =~ ^OpenSSL\ ([3-9]|[1-9][0-9]) ]] || echo 'openssl of version 3'
+    [[ -e $built/libmetsuwan.a ]] || echo 'libmetsuwan.a (clients/build.sh)'
+}
+
+client_build() {
+    ${limit[@]+"${limit[@]}"} make -C "$top/clients/openssl" BUILT="$built" OUT="$run/openssl" CFLAGS='-O1 -g -Werror'
+}
+
+client_program() { # NAME: there is none
+    return 1
+}
+
+# openssl.cnf for the server and the certificates that are set, with these lines of settings besides; what is called after it
+# has the provider.
+configure() { # LINE..
+    export OPENSSL_CONF=$work/openssl.cnf
+    {
+        printf '%s\n' 'openssl_conf = init' '[init]' 'providers = providers' '[providers]' 'default = default_section' \
+            'metsuwan = metsuwan_section' '[default_section]' 'activate = 1' '[metsuwan_section]' 'activate = 1' \
+            "module = ${provider:-$run/openssl/metsuwan.so}" "server = $host:$port" "certificate = $certificate" \
+            "key = $key" "authority = $authority" "seconds = $((30 * slack))"
+        printf '%s\n' "$@" '[req]' 'distinguished_name = dn' 'x509_extensions = authority' 'prompt = no' '[dn]' \
+            'CN = KMIP CA' '[authority]' 'basicConstraints = critical,CA:TRUE' \
+            'keyUsage = critical,keyCertSign,cRLSign,digitalSignature' 'subjectKeyIdentifier = hash' '[leaf]' \
+            'basicConstraints = CA:FALSE' 'subjectAltName = DNS:localhost,IP:127.0.0.1'
+    } >"$OPENSSL_CONF"
+}
+
+# The command without the provider.
+stock=(env OPENSSL_CONF=/dev/null openssl)
+
+does() { # WHAT COMMAND..: the command's status is 0
+    timeout -k 2 $((60 * slack)) "${@:2}" >"$said" 2>&1 </dev/null
+    verdict "$1"
+}
+
+refuses() { # WHAT REGEX COMMAND..: the command fails by itself, and has a line like this
+    local status
+    timeout -k 2 $((60 * slack)) "${@:3}" >"$said" 2>&1 </dev/null
+    status=$?
+    ((status > 0 && status < 124)) && grep -qE -- "$2" "$said"
+    verdict "$1"
+}
+
+# An active RSA pair under this name; $private and $public are then its identifiers.
+make_key() { # NAME
+    local made
+    made=$(by_shell create-rsa 2048 "$1" "$1, public") || return
+    private=$(jq -r .answer.private_key <<<"$made")
+    public=$(jq -r .answer.public_key <<<"$made")
+    by_shell activate "$private" >/dev/null
+}
+
+# A PEM file that holds a URI.
+write_uri() { # URI FILE
+    {
+        echo '-----BEGIN KMIP KEY URI-----'
+        printf '%s' "$1" | "${stock[@]}" base64
+        echo '-----END KMIP KEY URI-----'
+    } >"$2"
+}
+
+# From here on $port is that of a signer.py, which writes to $work/signer its operations.
+signer() { # [WRONG]
+    local log=$work/signer.${1-good}
+    rm -f "$log" # what one before it wrote is not to be read
+    [[ -e $work/signer.key ]] || "${stock[@]}" genrsa -out "$work/signer.key" 2048 2>"$work/signer.err" || give_up 'no key'
+    "$python" -B "$own/signer.py" "$certs" "$work/signer.key" "$@" >"$log" 2>"$log.err" &
+    started+=($!)
+    disown $!
+    wait_for ready "$log" $! || give_up 'signer.py does not listen'
+    port=$(sed -n 's/^ready //p' "$log")
+    ln -sf "$log" "$work/signer"
+}
+
+# From here on $port is that of a relay.py to the port that was set, whose process is $relay.
+through_relay() {
+    local log=$work/relay
+    rm -f "$log"
+    "$python" -B "$own/relay.py" "$port" >"$log" 2>"$log.err" &
+    relay=$!
+    started+=("$relay")
+    disown "$relay"
+    wait_for ready "$log" "$relay" || give_up 'relay.py does not listen'
+    port=$(sed -n 's/^ready //p' "$log")
+}
+
+# A program of clients/openssl/tests, built with these flags.
+build_test() { # NAME FLAG..
+    gcc -std=c11 -g -O1 -Wall -Wextra -Werror "${@:2}" -o "$work/$1" "$top/clients/openssl/tests/$1.c" \
+        -lcrypto -pthread >"$said" 2>&1
+    verdict "the test $1 is built"
+}
+
+# The provider, built with these flags, in $work/NAME; what is configured after it has that one.
+build_provider() { # NAME FLAG..
+    mkdir "$work/$1"
+    make -s -C "$top/clients/openssl" BUILT="$built" OUT="$work/$1" CFLAGS="-O1 -g ${*:2}" >"$said" 2>&1
+    verdict "the provider is built $1"
+    provider=$work/$1/metsuwan.so
+}
+
+# It is run, by the words of `watch`, and prints its own checks.
+watch=()
+run_test() { # NAME WORD..
+    timeout -k 2 $((300 * slack)) ${watch[@]+"${watch[@]}"} "$work/$1" "${@:2}" 2>"$said" </dev/null
+    verdict "$1 $2 ends well"
+}
+
+run_program() { # WORD..
+    run_test program "$@"
+}

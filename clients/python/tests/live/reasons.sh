@@ -1,0 +1,3 @@
+# shellcheck shell=bash
+# What is no answer is one line of JSON on standard error: the cases of the client in C.
+. "$top/clients/c/tests/live/reasons.sh"

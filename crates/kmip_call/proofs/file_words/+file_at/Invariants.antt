@@ -1,4 +1,0 @@
-use Rattle.kmip_call.proofs.file_words.+file_at.Given as goal
-
-abbrev pub decreases-file_at : goal.decreases-file_at
-decreases-file_at l = l.at

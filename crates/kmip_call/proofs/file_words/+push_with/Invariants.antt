@@ -1,4 +1,0 @@
-use Rattle.kmip_call.proofs.file_words.+push_with.Given as goal
-
-abbrev pub decreases-push_with : goal.decreases-push_with
-decreases-push_with l = l.at

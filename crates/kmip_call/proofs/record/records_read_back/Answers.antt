@@ -1,8 +1,0 @@
-use Rattle.kmip_call.proofs.ReadBack as laws
-use Rattle.kmip_call.proofs.record.records_read_back.Goals as goal
-
-pub returns-clause-back : goal.returns-clause-back
-returns-clause-back c = laws.back
-
-pub returns-clause-typed : goal.returns-clause-typed
-returns-clause-typed c = laws.typed

@@ -1,8 +1,0 @@
-use Rattle.kmip_call.proofs.Exchanges.{none_taken}
-use Rattle.kmip_call.proofs.wire.transfer.Goals as goal
-
-pub returns-in-Err-Fault-clause-taken_part : goal.returns-in-Err-Fault-clause-taken_part
-returns-in-Err-Fault-clause-taken_part g c = λ tells. none_taken (g.S.Source.state c.args.source.now) _
-
-pub returns-in-Err-OutOfMemory-clause-taken_part : goal.returns-in-Err-OutOfMemory-clause-taken_part
-returns-in-Err-OutOfMemory-clause-taken_part g c = λ tells. none_taken (g.S.Source.state c.args.source.now) _

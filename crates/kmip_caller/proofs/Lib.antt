@@ -1,0 +1,9 @@
+pub mod Messages
+pub mod Fronts
+pub mod Asked
+pub mod Exchanges
+pub mod Orders
+pub mod ReadBack
+pub mod Runs
+pub mod Refusing
+pub mod Contents

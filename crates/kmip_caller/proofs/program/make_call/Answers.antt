@@ -1,0 +1,28 @@
+use Rattle.kmip_caller.proofs.Asked.{asked_clash}
+use Rattle.kmip_caller.proofs.Exchanges.{part_unsent, on_err}
+use Rattle.kmip_caller.proofs.program.make_call.Goals as goal
+
+pub exchange-requires : goal.exchange-requires
+exchange-requires g c = rw c.in-Some.is at c.in_ok-requested.ensures
+
+pub returns-in_err-requested-clause-broken_off : goal.returns-in_err-requested-clause-broken_off
+returns-in_err-requested-clause-broken_off g c =
+    on_err c.from_residual.result
+    (λ exchange given. part_unsent c.args.order.now.settings.limit exchange (g.W.Sink.state c.args.wire.now)
+    (g.S.Source.state c.args.source.now))
+
+pub returns-in_err-exchange-in-Some-clause-broken_off : goal.returns-in_err-exchange-in-Some-clause-broken_off
+returns-in_err-exchange-in-Some-clause-broken_off g c =
+    on_err c.from_residual-in_err-exchange-in-Some.result c.in_err-exchange-in-Some.ensures.broken_off
+
+pub returns-in_err-exchange-in-Some-clause-wire : goal.returns-in_err-exchange-in-Some-clause-wire
+returns-in_err-exchange-in-Some-clause-wire g c = asked_clash c.args.order.now _ _ (rw c.in-Some.is at c.in_ok-requested.ensures)
+
+pub returns-in_err-exchange-in-Some-clause-source : goal.returns-in_err-exchange-in-Some-clause-source
+returns-in_err-exchange-in-Some-clause-source g c = asked_clash c.args.order.now _ _ (rw c.in-Some.is at c.in_ok-requested.ensures)
+
+pub returns-in_ok-exchange-in-Some-clause-wire : goal.returns-in_ok-exchange-in-Some-clause-wire
+returns-in_ok-exchange-in-Some-clause-wire g c = asked_clash c.args.order.now _ _ (rw c.in-Some.is at c.in_ok-requested.ensures)
+
+pub returns-in_ok-exchange-in-Some-clause-source : goal.returns-in_ok-exchange-in-Some-clause-source
+returns-in_ok-exchange-in-Some-clause-source g c = asked_clash c.args.order.now _ _ (rw c.in-Some.is at c.in_ok-requested.ensures)

@@ -1,0 +1,73 @@
+-- The line that says why no call is made.
+use Rattle.std.specs.Prelude.{◌≡◌, IsTrue, ℕ, List, ◌++◌, Bool, true, false, Option, Some, None, codes}
+use Rattle.std.specs.Option.{is_none}
+use Rattle.kmip_shape.specs.Shown.{text_in_style}
+use Rattle.kmip_shape.specs.declared.style.Style.TheVariants.{Json}
+use Rattle.kmip_link.specs.State.{SinkState, FaultCountRose}
+use Rattle.kmip_words.specs.Streams.{WrotePart}
+use Rattle.kmip_words.specs.Calls.{typed_call}
+use Rattle.kmip_words.specs.Complaints.{refusal as words_refusal}
+use Rattle.kmip_words.specs.declared.call.Call.{Call}
+use Rattle.kmip_operations.specs.Calls.{operation_named, version_written}
+use Rattle.kmip_caller.specs.TreeWords.{TreeText, an_operation, a_message, tree_words, item_id}
+use Rattle.kmip_caller.specs.declared.command.Order.{Order}
+
+-- the line of JSON of a `GrammarError` with this text
+abbrev pub grammar_line : List ℕ → List ℕ
+grammar_line text =
+    codes "{\"error\":\"GrammarError\",\"text\":" ++ (text_in_style text Json ++ codes "}\n")
+
+-- why no typed call is made: the words are no call, and which of them is wrong is said; or a record
+-- cannot hold them
+abbrev pub not_typed : Option Call → List (List ℕ) → List ℕ
+not_typed (Some call) words = codes "a record cannot hold these words"
+not_typed None words = words_refusal words
+
+-- what is said of a payload or a message that is none: what it is, and why
+abbrev pub IsNotRead : List ℕ → List ℕ → Type 0
+IsNotRead what text = (why : List ℕ) × (text ≡ what ++ why)
+
+-- where there is no operation of the name, where the version is none, where the Unique Batch Item
+-- ID is none, and else
+abbrev pub IsWrongBy : Bool → Bool → Bool → List ℕ → Type 0
+IsWrongBy true no_version no_id text = text ≡ codes "KMIP 1.2 has no operation of this name"
+IsWrongBy false true no_id text = text ≡ codes "version= takes 1.0, 1.1 or 1.2"
+IsWrongBy false false true text =
+    text ≡ codes "item-id= takes an even number of hex digits, at least two"
+IsWrongBy false false false text = IsNotRead (codes "the payload: ") text
+
+-- which of the words of a call of an operation is not what it should be
+abbrev pub IsWrongOperation : List ℕ → List ℕ → Option (List ℕ) → List ℕ → Type 0
+IsWrongOperation name version hex text =
+    IsWrongBy (is_none (operation_named name)) (is_none (version_written version))
+    (is_none (item_id hex)) text
+
+-- and of one whose payload or message is in JSON
+abbrev pub IsWrongTree : TreeText → List ℕ → Type 0
+IsWrongTree (an_operation name version hex payload) text = IsWrongOperation name version hex text
+IsWrongTree (a_message message) text = IsNotRead (codes "the message: ") text
+
+-- why none such is made: it is to be recorded, or one of the words is wrong
+abbrev pub IsNoTree : Option (List ℕ) → TreeText → List ℕ → Type 0
+IsNoTree (Some file) words text = text ≡ codes "a record cannot hold these words"
+IsNoTree None words text = IsWrongTree words text
+
+abbrev pub IsWhyNotBy : Option TreeText → Order → List ℕ → Type 0
+IsWhyNotBy (Some words) order text = IsNoTree order.file words text
+IsWhyNotBy None order text = text ≡ not_typed (typed_call order.words) order.words
+
+-- why nothing that the order asks for is made
+abbrev pub IsWhyNot : Order → List ℕ → Type 0
+IsWhyNot order text = IsWhyNotBy (tree_words order.words) order text
+
+-- the line that says it
+abbrev pub IsRefusal : Order → List ℕ → Type 0
+IsRefusal order line = (text : List ℕ) × IsWhyNot order text × (line ≡ grammar_line text)
+
+-- a refusal is written, unless its sink failed or memory ran out, and at most that
+abbrev pub IsRefusalWritten : Order → Type 0 → SinkState → SinkState → Type 0
+IsRefusalWritten order whole before after =
+    (line : List ℕ) × IsRefusal order line
+    × (whole → IsTrue before.tells → (FaultCountRose before.faults after.faults → ⊥) →
+    after.sent ≡ before.sent ++ line)
+    × (IsTrue before.tells → WrotePart before after line)

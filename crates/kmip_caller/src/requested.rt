@@ -1,0 +1,197 @@
+//! What an order asks for, and its request.
+ghost use Rattle.std.specs.Prelude.{◌≡◌, false, Some, None, option_map, IfOk, MatchOption};
+ghost use Rattle.std.specs.Option.{is_some};
+ghost use Rattle.kmip_caller.specs.TreeWords.{an_operation, a_message, tree_text, tree_words};
+ghost use Rattle.kmip_caller.specs.TreeWords.{item_id};
+ghost use Rattle.kmip_words.specs.Calls.{typed_call};
+ghost use Rattle.kmip_words.specs.Exchange.{request_asked};
+ghost use Rattle.kmip_caller.specs.Asked.{is_allowed, call_for, AsksForNone, Requests};
+ghost use Rattle.kmip_caller.specs.declared.requested.Asked.TheVariants.{Typed};
+
+use crate::command::Order;
+use crate::record::{is_recordable, words_for};
+use crate::tree_words::{TreeWords, item_id, tree_words};
+use kmip_operations::{
+    OperationCall, message_of, message_request, operation_call, operation_request,
+};
+use kmip_wire::{Blob, OutOfMemory, Tree};
+use kmip_words::{Call, Settings, request_of, typed_call};
+use std::alloc::Global;
+
+/// What the words of an order ask for.
+#[derive(Drop)]
+pub enum Asked {
+    /// A call of kmip_words.
+    Typed(Call),
+    /// A call of any operation.
+    Operation(OperationCall),
+    /// A whole message.
+    Message(Tree),
+}
+
+/// What an order asks for, and its request.
+#[derive(Drop)]
+pub struct Requested {
+    /// What the order asks for.
+    pub asked: Asked,
+    /// The bytes of its request; `None` where it has no wire form.
+    pub request: Option<Blob>,
+}
+
+/// Whether a typed call may be made: where it is to be recorded, only if a script may hold it.
+fn is_allowed(alloc: Global, order: &Order, call: &Call) -> Result<bool, OutOfMemory>
+    requires { typed_call order.now.words ≡ Some call.now }
+    ensures { IfOk result (λ allowed. allowed ≡ is_allowed order.now.file order.now.words) }
+{
+    match &order.file {
+        Some(_) => {
+            let words = words_for(alloc, call, order.words.as_slice())?;
+            is_recordable(alloc, words.as_slice())
+        }
+        None => Ok(true),
+    }
+}
+
+/// A typed call, with its request.
+fn with_request(alloc: Global, settings: &Settings, call: Call) -> Result<Requested, OutOfMemory>
+    ensures asked { IfOk result (λ it. it.asked ≡ Typed call) }
+    ensures request { IfOk result
+        (λ it. it.request ≡ (request_asked call settings.now.credential).message) }
+{
+    let request = request_of(alloc, settings, &call)?;
+    Ok(Requested {
+        asked: Asked::Typed(call),
+        request,
+    })
+}
+
+/// The request of a typed call; `None` where the words are none that may be made.
+fn typed_request(alloc: Global, order: &Order) -> Result<Option<Requested>, OutOfMemory>
+    requires { tree_words order.now.words ≡ None }
+    ensures { IfOk result (λ found. MatchOption found (call_for order.now ≡ None)
+        (λ it. Requests order.now it.asked it.request)) }
+{
+    let Some(call) = typed_call(alloc, order.words.as_slice())? else {
+        return Ok(None);
+    };
+    if !is_allowed(alloc, order, &call)? {
+        return Ok(None);
+    }
+    Ok(Some(with_request(alloc, &order.settings, call)?))
+}
+
+/// The bytes of an ID, where there is one.
+fn bytes_in(id: &Option<Blob>) -> Option<&[u8]>
+    ensures { option_map (λ bytes. bytes.now) result ≡ id.now }
+{
+    match id {
+        Some(id) => Some(id.as_slice()),
+        None => None,
+    }
+}
+
+/// The request of a call of any operation with this Unique Batch Item ID, where it has one, which
+/// the word `hex` gives; `None` where the words ask for none.
+fn operation_with(
+    alloc: Global,
+    order: &Order,
+    name: &str,
+    version: &str,
+    hex: Option<&str>,
+    id: &Option<Blob>,
+    payload: &str,
+) -> Result<Option<Requested>, OutOfMemory>
+    requires file { is_some order.now.file ≡ false }
+    requires words { tree_words order.now.words ≡ Some (an_operation name.now version.now
+        (option_map (λ text. text.now) hex) payload.now) }
+    requires id { item_id (option_map (λ text. text.now) hex) ≡ Some id.now }
+    ensures { IfOk result (λ found. MatchOption found (AsksForNone order.now)
+        (λ it. Requests order.now it.asked it.request)) }
+{
+    let Some(call) = operation_call(alloc, name, version, bytes_in(id), payload)? else {
+        return Ok(None);
+    };
+    let request = operation_request(alloc, &order.settings, &call)?;
+    Ok(Some(Requested {
+        asked: Asked::Operation(call),
+        request,
+    }))
+}
+
+/// The request of a call of any operation; `None` where the words ask for none.
+fn operation_request_of(
+    alloc: Global,
+    order: &Order,
+    name: &str,
+    version: &str,
+    hex: Option<&str>,
+    payload: &str,
+) -> Result<Option<Requested>, OutOfMemory>
+    requires file { is_some order.now.file ≡ false }
+    requires words { tree_words order.now.words ≡ Some (an_operation name.now version.now
+        (option_map (λ text. text.now) hex) payload.now) }
+    ensures { IfOk result (λ found. MatchOption found (AsksForNone order.now)
+        (λ it. Requests order.now it.asked it.request)) }
+{
+    match item_id(alloc, hex)? {
+        Some(id) => operation_with(alloc, order, name, version, hex, &id, payload),
+        None => Ok(None),
+    }
+}
+
+/// The bytes of a message; `None` where the word is none.
+fn message_request_of(
+    alloc: Global,
+    order: &Order,
+    text: &str,
+) -> Result<Option<Requested>, OutOfMemory>
+    requires file { is_some order.now.file ≡ false }
+    requires words { tree_words order.now.words ≡ Some (a_message text.now) }
+    ensures { IfOk result (λ found. MatchOption found (AsksForNone order.now)
+        (λ it. Requests order.now it.asked it.request)) }
+{
+    let Some(message) = message_of(alloc, text)? else {
+        return Ok(None);
+    };
+    let request = message_request(alloc, &message)?;
+    Ok(Some(Requested {
+        asked: Asked::Message(message),
+        request,
+    }))
+}
+
+/// The request of a call whose payload or message is given in JSON; `None` where the words ask for
+/// none, or the call is to be recorded.
+fn tree_request(
+    alloc: Global,
+    order: &Order,
+    words: TreeWords<'_>,
+) -> Result<Option<Requested>, OutOfMemory>
+    requires { tree_words order.now.words ≡ Some (tree_text words) }
+    ensures { IfOk result (λ found. MatchOption found (AsksForNone order.now)
+        (λ it. Requests order.now it.asked it.request)) }
+{
+    if order.file.is_some() {
+        return Ok(None);
+    }
+    match words {
+        TreeWords::Operation {
+            name,
+            version,
+            hex,
+            payload,
+        } => operation_request_of(alloc, order, name, version, hex, payload),
+        TreeWords::Message { message } => message_request_of(alloc, order, message),
+    }
+}
+
+/// What an order asks for, and its request; `None` where it asks for nothing that may be made.
+pub fn request_for(alloc: Global, order: &Order) -> Result<Option<Requested>, OutOfMemory>
+    ensures { IfOk result (λ found. MatchOption found (AsksForNone order.now)
+        (λ it. Requests order.now it.asked it.request)) }
+{
+    match tree_words(order.words.as_slice()) {
+        Some(words) => tree_request(alloc, order, words),
+        None => typed_request(alloc, order),
+    }
+}

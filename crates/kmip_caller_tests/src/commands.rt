@@ -1,0 +1,53 @@
+//! Which command words are, and what the help and the grammar print.
+use crate::support::commanded;
+use kmip_caller::{Command, grammar_json, help_text};
+use kmip_wire::Text;
+use kmip_words::{calls, push_form};
+use std::alloc::Global;
+use std::test::Fail;
+
+/// What these words ask for.
+fn asked(alloc: Global, words: &[&str]) -> Result<&'static str, Fail> {
+    let command = commanded(alloc, words, None)?;
+    let name = match &command {
+        Some(Command::Help) => "help",
+        Some(Command::Version) => "version",
+        Some(Command::Grammar) => "grammar",
+        Some(Command::Make(_)) => "a call",
+        None => "nothing",
+    };
+    drop(command);
+    Ok(name)
+}
+
+#[test]
+fn help_and_version_are_commands_only_where_they_stand_alone(rt: HostRuntime) -> Result<(), Fail> {
+    let help = asked(rt.alloc(), &["--help"])?;
+    let version = asked(rt.alloc(), &["--version"])?;
+    let grammar = asked(rt.alloc(), &["--grammar"])?;
+    let more = asked(rt.alloc(), &["--version", "query"])?;
+    assert_eq!(rt;
+        [help, version, grammar, more],
+        ["help", "version", "grammar", "a call"]
+    );
+    Ok(())
+}
+
+#[test]
+fn the_help_and_the_grammar_have_all_calls(rt: HostRuntime) -> Result<(), Fail> {
+    let help = help_text(rt.alloc())?;
+    let grammar = grammar_json(rt.alloc())?;
+    for line in help.as_str().lines() {
+        assert!(rt; line.len() <= 80, "{line}");
+    }
+    for row in calls() {
+        let mut form = Text::new(rt.alloc());
+        push_form(row, &mut form)?;
+        assert!(rt; help.as_str().contains(form.as_str()), "{}", row.name);
+        assert!(rt; grammar.as_str().contains(form.as_str()), "{}", row.name);
+    }
+    assert!(rt;
+        grammar.as_str().contains("{\"name\":\"hash=\",\"kind\":\"Hash\",\"is_needed\":false}")
+    );
+    Ok(())
+}

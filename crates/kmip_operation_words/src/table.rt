@@ -1,0 +1,400 @@
+//! The table of calls.
+ghost use Rattle.std.specs.Prelude.{◌≡◌, map};
+ghost use Rattle.kmip_operation_words.specs.Rows.{row_view};
+ghost use Rattle.kmip_operation_words.specs.Table.{calls};
+
+use crate::fields::{
+    ALGORITHM_ATTRIBUTE, CORRELATION, COUNT, COUNT_WANTED, CURVE, CURVE_ALGORITHM,
+    CURVE_PRIVATE_NAME, CURVE_PUBLIC_NAME, DATA_ALONE, DERIVATION_DATA, DERIVED_BY, HASHED_BY, ID,
+    IDS, ITERATIONS, IV, KEY_ALGORITHM, KEY_BITS, KEY_NAME, KEY_USAGE, LEASE_WANTED, LENGTH,
+    LENGTH_NEEDED, MAC, METHOD, NAME_GIVEN, OBJECT_DATA, OFFSET, PARAMETERS, PRIVATE_ID,
+    PRIVATE_NAME, PRIVATE_USAGE, PUBLIC_NAME, PUBLIC_USAGE, REQUEST, REQUEST_TYPE, SALT, SEED,
+    SIGNATURE, SYMMETRIC_KEY, TYPE, USAGE_ATTRIBUTE, USAGE_WANTED,
+};
+use crate::rows::{OperationRow, PartRow, Rest};
+use kmip_enums::Operation;
+use kmip_tags::tags;
+
+/// The calls.
+const CALLS: &[OperationRow] = &[
+    OperationRow {
+        name: "encrypt",
+        operation: Operation::Encrypt,
+        words: 2,
+        rest: Rest::Options,
+        parts: &[
+            PartRow {
+                group: None,
+                fields: &[ID],
+            },
+            PartRow {
+                group: Some(tags::CRYPTOGRAPHIC_PARAMETERS),
+                fields: PARAMETERS,
+            },
+            PartRow {
+                group: None,
+                fields: &[OBJECT_DATA, IV],
+            },
+        ],
+        help: "the data, encrypted with a key",
+    },
+    OperationRow {
+        name: "decrypt",
+        operation: Operation::Decrypt,
+        words: 2,
+        rest: Rest::Options,
+        parts: &[
+            PartRow {
+                group: None,
+                fields: &[ID],
+            },
+            PartRow {
+                group: Some(tags::CRYPTOGRAPHIC_PARAMETERS),
+                fields: PARAMETERS,
+            },
+            PartRow {
+                group: None,
+                fields: &[OBJECT_DATA, IV],
+            },
+        ],
+        help: "the data, decrypted with a key",
+    },
+    OperationRow {
+        name: "mac",
+        operation: Operation::MAC,
+        words: 2,
+        rest: Rest::Options,
+        parts: &[
+            PartRow {
+                group: None,
+                fields: &[ID],
+            },
+            PartRow {
+                group: Some(tags::CRYPTOGRAPHIC_PARAMETERS),
+                fields: PARAMETERS,
+            },
+            PartRow {
+                group: None,
+                fields: &[OBJECT_DATA],
+            },
+        ],
+        help: "the message authentication code of the data, by a key",
+    },
+    OperationRow {
+        name: "mac-verify",
+        operation: Operation::MACVerify,
+        words: 3,
+        rest: Rest::Options,
+        parts: &[
+            PartRow {
+                group: None,
+                fields: &[ID],
+            },
+            PartRow {
+                group: Some(tags::CRYPTOGRAPHIC_PARAMETERS),
+                fields: PARAMETERS,
+            },
+            PartRow {
+                group: None,
+                fields: &[OBJECT_DATA, MAC],
+            },
+        ],
+        help: "whether this is the message authentication code of the data",
+    },
+    OperationRow {
+        name: "verify",
+        operation: Operation::SignatureVerify,
+        words: 3,
+        rest: Rest::Options,
+        parts: &[
+            PartRow {
+                group: None,
+                fields: &[ID],
+            },
+            PartRow {
+                group: Some(tags::CRYPTOGRAPHIC_PARAMETERS),
+                fields: PARAMETERS,
+            },
+            PartRow {
+                group: None,
+                fields: &[OBJECT_DATA, SIGNATURE],
+            },
+        ],
+        help: "whether this is a signature of the data, by the private key of this public one",
+    },
+    OperationRow {
+        name: "hash",
+        operation: Operation::Hash,
+        words: 1,
+        rest: Rest::Options,
+        parts: &[
+            PartRow {
+                group: Some(tags::CRYPTOGRAPHIC_PARAMETERS),
+                fields: &[HASHED_BY],
+            },
+            PartRow {
+                group: None,
+                fields: &[DATA_ALONE],
+            },
+        ],
+        help: "the hash of the data",
+    },
+    OperationRow {
+        name: "derive-key",
+        operation: Operation::DeriveKey,
+        words: 2,
+        rest: Rest::Options,
+        parts: &[
+            PartRow {
+                group: None,
+                fields: &[TYPE, ID, METHOD],
+            },
+            PartRow {
+                group: Some(tags::DERIVATION_PARAMETERS),
+                fields: &[DERIVED_BY, DERIVATION_DATA, SALT, ITERATIONS],
+            },
+            PartRow {
+                group: Some(tags::TEMPLATE_ATTRIBUTE),
+                fields: &[
+                    ALGORITHM_ATTRIBUTE,
+                    LENGTH_NEEDED,
+                    USAGE_ATTRIBUTE,
+                    NAME_GIVEN,
+                ],
+            },
+        ],
+        help: "a new key or secret, derived from an object by PBKDF2, HASH or HMAC",
+    },
+    OperationRow {
+        name: "rekey",
+        operation: Operation::Rekey,
+        words: 1,
+        rest: Rest::Options,
+        parts: &[PartRow {
+            group: None,
+            fields: &[ID, OFFSET],
+        }],
+        help: "a new symmetric key in the place of this one",
+    },
+    OperationRow {
+        name: "rekey-pair",
+        operation: Operation::RekeyKeyPair,
+        words: 1,
+        rest: Rest::Options,
+        parts: &[PartRow {
+            group: None,
+            fields: &[PRIVATE_ID, OFFSET],
+        }],
+        help: "a new pair of keys in the place of the pair of this private key",
+    },
+    OperationRow {
+        name: "certify",
+        operation: Operation::Certify,
+        words: 1,
+        rest: Rest::Options,
+        parts: &[
+            PartRow {
+                group: None,
+                fields: &[ID, REQUEST_TYPE, REQUEST],
+            },
+            PartRow {
+                group: Some(tags::TEMPLATE_ATTRIBUTE),
+                fields: &[NAME_GIVEN],
+            },
+        ],
+        help: "a certificate for a public key",
+    },
+    OperationRow {
+        name: "recertify",
+        operation: Operation::Recertify,
+        words: 1,
+        rest: Rest::Options,
+        parts: &[
+            PartRow {
+                group: None,
+                fields: &[ID, REQUEST_TYPE, REQUEST, OFFSET],
+            },
+            PartRow {
+                group: Some(tags::TEMPLATE_ATTRIBUTE),
+                fields: &[NAME_GIVEN],
+            },
+        ],
+        help: "a new certificate in the place of this one",
+    },
+    OperationRow {
+        name: "create-ec",
+        operation: Operation::CreateKeyPair,
+        words: 3,
+        rest: Rest::Options,
+        parts: &[
+            PartRow {
+                group: Some(tags::COMMON_TEMPLATE_ATTRIBUTE),
+                fields: &[CURVE_ALGORITHM, LENGTH, CURVE],
+            },
+            PartRow {
+                group: Some(tags::PRIVATE_KEY_TEMPLATE_ATTRIBUTE),
+                fields: &[CURVE_PRIVATE_NAME, PRIVATE_USAGE],
+            },
+            PartRow {
+                group: Some(tags::PUBLIC_KEY_TEMPLATE_ATTRIBUTE),
+                fields: &[CURVE_PUBLIC_NAME, PUBLIC_USAGE],
+            },
+        ],
+        help: "a new pair of keys on a curve, with these names",
+    },
+    OperationRow {
+        name: "create-pair",
+        operation: Operation::CreateKeyPair,
+        words: 4,
+        rest: Rest::Options,
+        parts: &[
+            PartRow {
+                group: Some(tags::COMMON_TEMPLATE_ATTRIBUTE),
+                fields: &[KEY_ALGORITHM, KEY_BITS],
+            },
+            PartRow {
+                group: Some(tags::PRIVATE_KEY_TEMPLATE_ATTRIBUTE),
+                fields: &[PRIVATE_NAME, PRIVATE_USAGE],
+            },
+            PartRow {
+                group: Some(tags::PUBLIC_KEY_TEMPLATE_ATTRIBUTE),
+                fields: &[PUBLIC_NAME, PUBLIC_USAGE],
+            },
+        ],
+        help: "a new pair of keys of any algorithm, with these names",
+    },
+    OperationRow {
+        name: "create-key",
+        operation: Operation::Create,
+        words: 3,
+        rest: Rest::Options,
+        parts: &[
+            PartRow {
+                group: None,
+                fields: &[SYMMETRIC_KEY],
+            },
+            PartRow {
+                group: Some(tags::TEMPLATE_ATTRIBUTE),
+                fields: &[KEY_ALGORITHM, KEY_BITS, KEY_NAME, KEY_USAGE],
+            },
+        ],
+        help: "a new symmetric key of any algorithm",
+    },
+    OperationRow {
+        name: "check",
+        operation: Operation::Check,
+        words: 1,
+        rest: Rest::Options,
+        parts: &[PartRow {
+            group: None,
+            fields: &[ID, COUNT_WANTED, USAGE_WANTED, LEASE_WANTED],
+        }],
+        help: "whether an object may be used so",
+    },
+    OperationRow {
+        name: "attribute-list",
+        operation: Operation::GetAttributeList,
+        words: 1,
+        rest: Rest::Options,
+        parts: &[PartRow {
+            group: None,
+            fields: &[ID],
+        }],
+        help: "the names of the attributes that an object has",
+    },
+    OperationRow {
+        name: "lease",
+        operation: Operation::ObtainLease,
+        words: 1,
+        rest: Rest::Options,
+        parts: &[PartRow {
+            group: None,
+            fields: &[ID],
+        }],
+        help: "a lease of an object: for how long it may be used",
+    },
+    OperationRow {
+        name: "usage-allocation",
+        operation: Operation::GetUsageAllocation,
+        words: 2,
+        rest: Rest::Options,
+        parts: &[PartRow {
+            group: None,
+            fields: &[ID, COUNT],
+        }],
+        help: "so much of the use that is left of an object",
+    },
+    OperationRow {
+        name: "archive",
+        operation: Operation::Archive,
+        words: 1,
+        rest: Rest::Options,
+        parts: &[PartRow {
+            group: None,
+            fields: &[ID],
+        }],
+        help: "the object may be stored off line",
+    },
+    OperationRow {
+        name: "recover",
+        operation: Operation::Recover,
+        words: 1,
+        rest: Rest::Options,
+        parts: &[PartRow {
+            group: None,
+            fields: &[ID],
+        }],
+        help: "the object is to be on line again",
+    },
+    OperationRow {
+        name: "validate",
+        operation: Operation::Validate,
+        words: 1,
+        rest: Rest::Words,
+        parts: &[PartRow {
+            group: None,
+            fields: &[ID, IDS],
+        }],
+        help: "whether these certificates are a valid chain",
+    },
+    OperationRow {
+        name: "cancel",
+        operation: Operation::Cancel,
+        words: 1,
+        rest: Rest::Options,
+        parts: &[PartRow {
+            group: None,
+            fields: &[CORRELATION],
+        }],
+        help: "the operation that has not ended is stopped",
+    },
+    OperationRow {
+        name: "poll",
+        operation: Operation::Poll,
+        words: 1,
+        rest: Rest::Options,
+        parts: &[PartRow {
+            group: None,
+            fields: &[CORRELATION],
+        }],
+        help: "how far the operation is that has not ended",
+    },
+    OperationRow {
+        name: "rng-seed",
+        operation: Operation::RNGSeed,
+        words: 1,
+        rest: Rest::Options,
+        parts: &[PartRow {
+            group: None,
+            fields: &[SEED],
+        }],
+        help: "the random numbers get these bytes",
+    },
+];
+
+/// The table, which is that of specs.
+pub fn operation_calls() -> &'static [OperationRow]
+    ensures { map row_view result.now ≡ calls }
+{
+    CALLS
+}

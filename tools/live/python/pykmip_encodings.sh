@@ -1,8 +1,0 @@
-# shellcheck shell=bash
-# needs: server
-# PyKMIP's own encodings of all its operations, through JSON and back.
-. "$here/ttlv.sh"
-if find_ttlv; then
-    "$python" -B "$here/python/encodings.py" "$ttlv" pykmip 2>"$said"
-    verdict "PyKMIP's messages are looked at"
-fi

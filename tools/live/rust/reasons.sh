@@ -1,3 +1,0 @@
-# shellcheck shell=bash
-# What is no answer is one line of JSON on standard error, which says why: the cases of the client in C.
-. "$here/c/reasons.sh"
