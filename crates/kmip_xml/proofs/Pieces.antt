@@ -3,9 +3,7 @@ use Rattle.std.proofs.Common.{◌≡◌, ℕ, ◌+◌, ◌<◌, ◌≤◌, Bool,
 use Rattle.std.proofs.lemmas.List.{at_drop_all, at_drop_more}
 use Rattle.std.specs.List.{list_all}
 use Rattle.kmip_encodings.specs.XmlGrammar.{is_xml_char}
-use Rattle.kmip_xml.specs.declared.error.XmlError.{XmlError}
-use Rattle.kmip_xml.specs.declared.error.XmlError.TheVariants as errors
-use Rattle.kmip_xml.specs.Given.{Fails, ◌>>=◌}
+use Rattle.kmip_xml.specs.Given.{◌>>=◌}
 use Rattle.kmip_xml.specs.Values.{plain_char, plain, referred, all_referred}
 
 pub plain_more : (all : List ℕ) (n c before : ℕ) → (n < length all) × (c ≡ get_or all n c)
@@ -60,13 +58,12 @@ refused : (old : List ℕ) (read : Option (List ℕ)) (others : Option (List ℕ
 refused old (Some first) others e = absurd cc
 refused old None others e = refl
 
-pub part_fails : (error : XmlError) (parts : List (Bor (List ℕ))) (i : ℕ) (part : Bor (List ℕ))
-    (old : List ℕ) (all : Option (List ℕ)) → i < length parts → part ≡ get_or parts i part
-    → Fails error (onto old (referred part.now)) → onto old (left parts i) ≡ all → Fails error all
-part_fails (errors.Misfit m) parts i part old all h e r q =
+pub part_fails : (parts : List (Bor (List ℕ))) (i : ℕ) (part : Bor (List ℕ)) (old : List ℕ)
+    (all : Option (List ℕ)) → i < length parts → part ≡ get_or parts i part
+    → onto old (referred part.now) ≡ None → onto old (left parts i) ≡ all → all ≡ None
+part_fails parts i part old all h e r q =
     sym q ∙ ap (λ ps. onto old (all_referred (map (λ p. p.now) ps))) (rest_at parts i part h e)
     ∙ refused old (referred part.now) (left parts (i + 1)) r
-part_fails errors.OutOfMemory parts i part old all h e r q = tt
 
 pub parts_done : (parts : List (Bor (List ℕ))) (i : ℕ) (old : List ℕ) (all : Option (List ℕ))
     → length parts ≤ i → onto old (left parts i) ≡ all → all ≡ Some old

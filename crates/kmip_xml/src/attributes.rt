@@ -1,5 +1,5 @@
 //! The attributes of an element.
-ghost use Rattle.std.specs.Prelude.{◌≡◌, option_map};
+ghost use Rattle.std.specs.Prelude.{◌≡◌, Some, None, if◌then◌else◌, option_map};
 ghost use Rattle.kmip_xml.specs.Given.{Gives};
 ghost use Rattle.kmip_xml.specs.Markup.{quoted, equals, once, no_attributes, put, attribute};
 ghost use Rattle.kmip_xml.specs.Markup.{attributes};
@@ -37,53 +37,30 @@ fn equals(text: &str) -> Option<&str>
     Some(trimmed(after("=", trimmed(text))?))
 }
 
-/// The attribute's value, where it has none so far.
-fn once(found: Option<Text>, value: Text) -> Option<Option<Text>>
-    ensures { result ≡ once found value }
+/// Gives an attribute its value, where it has none so far.
+fn once(slot: &mut Option<Text>, value: Text) -> bool
+    ensures { (if result then Some slot.new else None) ≡ once slot.old value }
 {
-    match found {
-        None => Some(Some(value)),
-        Some(_) => None,
+    match slot {
+        Some(_) => false,
+        None => {
+            *slot = Some(value);
+            true
+        }
     }
 }
 
-/// The attributes with one more, which is none of them so far.
+/// Adds an attribute that is none of these so far.
 #[tactic(auto, unfolding(crate::specs::Markup::put))]
-fn put(key: &str, value: Text, found: Attributes) -> Option<Attributes>
-    ensures { result ≡ put key.now value found }
+fn put(key: &str, value: Text, found: &mut Attributes) -> bool
+    ensures { (if result then Some found.new else None) ≡ put key.now value found.old }
 {
-    let Attributes {
-        tag,
-        kind,
-        value: other,
-        name,
-    } = found;
     match key {
-        "tag" => Some(Attributes {
-            tag: once(tag, value)?,
-            kind,
-            value: other,
-            name,
-        }),
-        "type" => Some(Attributes {
-            tag,
-            kind: once(kind, value)?,
-            value: other,
-            name,
-        }),
-        "value" => Some(Attributes {
-            tag,
-            kind,
-            value: once(other, value)?,
-            name,
-        }),
-        "name" => Some(Attributes {
-            tag,
-            kind,
-            value: other,
-            name: once(name, value)?,
-        }),
-        _ => None,
+        "tag" => once(&mut found.tag, value),
+        "type" => once(&mut found.kind, value),
+        "value" => once(&mut found.value, value),
+        "name" => once(&mut found.name, value),
+        _ => false,
     }
 }
 
@@ -91,7 +68,7 @@ fn put(key: &str, value: Text, found: Attributes) -> Option<Attributes>
 #[tactic(auto, unfolding(crate::specs::Markup::attribute))]
 fn attribute<'a>(
     alloc: Global,
-    found: Attributes,
+    mut found: Attributes,
     text: &'a str,
 ) -> Result<(Attributes, &'a str), XmlError>
     ensures { Gives (λ x. (x.0, x.1.now)) result (attribute found text.now) }
@@ -104,9 +81,10 @@ fn attribute<'a>(
         return Err(XmlError::Misfit(misfit_at(place, Wanted::Quotes)));
     };
     let value = value_of(alloc, raw, place)?;
-    match put(key, value, found) {
-        Some(more) => Ok((more, rest)),
-        None => Err(XmlError::Misfit(misfit_at(text, Wanted::AttributeName))),
+    if put(key, value, &mut found) {
+        Ok((found, rest))
+    } else {
+        Err(XmlError::Misfit(misfit_at(text, Wanted::AttributeName)))
     }
 }
 

@@ -1,5 +1,6 @@
 //! The value of an item that is no structure.
-ghost use Rattle.std.specs.Prelude.{◌≡◌, ℕ, IfOk, option_map};
+ghost use Rattle.std.specs.Prelude.{◌≡◌, ℕ, IfOk, option_map, bytes_eq};
+ghost use Rattle.std.specs.Fmt.{signed_decimal};
 ghost use Rattle.kmip_wire.specs.Sees.{tree_of_node};
 ghost use Rattle.kmip_wire.specs.Tree.{scalar, integer, long_integer, big_integer, boolean};
 ghost use Rattle.std.specs.List.{slice_split};
@@ -14,15 +15,20 @@ use kmip_encodings::{bits_of_parts, number_node, parts_between, spelled, string_
 use kmip_wire::{Blob, Kind, Node, OutOfMemory, Tag};
 use std::alloc::Global;
 
+fn is_printed(number: i64, text: &str) -> bool
+    ensures { result ≡ bytes_eq (signed_decimal number) text.now }
+{
+    Buffer::new().format(number) == text
+}
+
 /// The number of 64 bits whose decimal form is this text.
-#[tactic(auto, unfolding(crate::specs::Scalars::long_number))]
 fn long_number(text: &str) -> Option<i64>
     ensures { result ≡ long_number text.now }
 {
     let Ok(number) = text.parse::<i64>() else {
         return None;
     };
-    if Buffer::new().format(number) == text {
+    if is_printed(number, text) {
         Some(number)
     } else {
         None

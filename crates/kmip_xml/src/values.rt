@@ -1,5 +1,6 @@
 //! The value of an attribute.
 ghost use Rattle.std.specs.Prelude.{◌≡◌, ◌++◌, ◌∷◌, ◌≤◌, ◌<◌, IfOk, IfSome, option_map, map};
+ghost use Rattle.std.specs.Prelude.{Some, None, if◌then◌else◌};
 ghost use Rattle.std.specs.Str.{chars};
 ghost use Rattle.kmip_xml.specs.Given.{Gives};
 ghost use Rattle.kmip_xml.specs.Values.{plain_char, plain, digit, grown, digits, character};
@@ -131,47 +132,53 @@ fn reference(name: &str) -> Option<char>
     }
 }
 
-/// Appends the character of a reference and what stands behind it; the part begins behind its `&`.
-/// Here and below an error is one at the place.
+/// Appends the character of a reference and what stands behind it, where the part, which begins
+/// behind its `&`, begins with a reference.
 #[tactic(auto, unfolding(crate::specs::Values::referred))]
-fn put_referred(out: &mut Text, part: &str, place: &str) -> Result<(), XmlError>
-    ensures { Gives (λ _. out.new) result (option_map (λ s. out.old ++ s) (referred part.now)) }
+fn put_referred(out: &mut Text, part: &str) -> Result<bool, OutOfMemory>
+    ensures { IfOk result (λ is_read. (if is_read then Some out.new else None) ≡
+        option_map (λ s. out.old ++ s) (referred part.now)) }
 {
     let Some((name, rest)) = around(';', part) else {
-        return Err(XmlError::Misfit(misfit_at(place, Wanted::Reference)));
+        return Ok(false);
     };
     let Some(ch) = reference(name) else {
-        return Err(XmlError::Misfit(misfit_at(place, Wanted::Reference)));
+        return Ok(false);
     };
     out.push(ch)?;
     put_plain(out, rest)?;
-    Ok(())
+    Ok(true)
 }
 
 /// Appends what stands behind each `&`.
-fn put_all_referred(out: &mut Text, parts: &[&str], place: &str) -> Result<(), XmlError>
-    ensures { Gives (λ _. out.new) result
-        (option_map (λ s. out.old ++ s) (all_referred (map (λ part. part.now) parts.now))) }
+fn put_all_referred(out: &mut Text, parts: &[&str]) -> Result<bool, OutOfMemory>
+    ensures { IfOk result (λ is_read. (if is_read then Some out.new else None) ≡
+        option_map (λ s. out.old ++ s) (all_referred (map (λ part. part.now) parts.now))) }
 {
     for part in parts {
-        put_referred(out, part, place)?;
+        if !put_referred(out, part)? {
+            return Ok(false);
+        }
     }
-    Ok(())
+    Ok(true)
 }
 
 /// The value that stands in these parts, with an `&` between two.
-fn joined(alloc: Global, parts: &[&str], place: &str) -> Result<Text, XmlError>
-    ensures { Gives (λ text. text) result (joined (map (λ part. part.now) parts.now)) }
+fn joined(alloc: Global, parts: &[&str]) -> Result<Option<Text>, OutOfMemory>
+    ensures { IfOk result (λ text. text ≡ joined (map (λ part. part.now) parts.now)) }
 {
     let mut out = Text::new(alloc);
     if let [first, rest @ ..] = parts {
         put_plain(&mut out, first)?;
-        put_all_referred(&mut out, rest, place)?;
+        if !put_all_referred(&mut out, rest)? {
+            return Ok(None);
+        }
     }
-    Ok(out)
+    Ok(Some(out))
 }
 
-/// The value of an attribute, by what stands between its quotes; its text begins at the place.
+/// The value of an attribute, by what stands between its quotes; an error is one at the place, where
+/// its text begins.
 #[tactic(auto, unfolding(crate::specs::Values::value_of))]
 pub(crate) fn value_of(alloc: Global, raw: &str, place: &str) -> Result<Text, XmlError>
     ensures { Gives (λ text. text) result (value_of raw.now) }
@@ -180,5 +187,8 @@ pub(crate) fn value_of(alloc: Global, raw: &str, place: &str) -> Result<Text, Xm
         return Err(XmlError::Misfit(misfit_at(place, Wanted::NoElementInValue)));
     }
     let parts = parts_between(alloc, '&', raw)?;
-    joined(alloc, &parts, place)
+    match joined(alloc, &parts)? {
+        Some(text) => Ok(text),
+        None => Err(XmlError::Misfit(misfit_at(place, Wanted::Reference))),
+    }
 }
