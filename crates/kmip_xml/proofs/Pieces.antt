@@ -26,9 +26,9 @@ onto old read = option_map (λ s. old ++ s) read
 abbrev pub left : List (Bor (List ℕ)) → ℕ → Option (List ℕ)
 left parts i = all_referred (map (λ part. part.now) (drop i parts))
 
-rest_at : {X : Type 0} (xs : List X) (i : ℕ) (x : X) → i < length xs → x ≡ get_or xs i x
-    → drop i xs ≡ x ∷ drop (i + 1) xs
-rest_at xs i x h e = rw (add-one, drop-cons xs i x h, ← e) refl
+rest_at : {X : Type 0} (xs : List X) (i : ℕ) (d : X) → i < length xs
+    → drop i xs ≡ get_or xs i d ∷ drop (i + 1) xs
+rest_at xs i d h = rw (add-one, drop-cons xs i d h) refl
 
 onto_both : (old first : List ℕ) (others : Option (List ℕ))
     → onto old (others >>= λ o. Some (first ++ o)) ≡ onto (old ++ first) others
@@ -45,28 +45,10 @@ read_as old new (Some first) others e =
     onto_both old first others ∙ ap (λ t. onto t others) (same (old ++ first) new e)
 read_as old new None others e = absurd cc
 
-pub part_more : (parts : List (Bor (List ℕ))) (i : ℕ) (part : Bor (List ℕ)) (old new : List ℕ)
-    (all : Option (List ℕ)) → i < length parts → part ≡ get_or parts i part
-    → onto old (referred part.now) ≡ Some new → onto old (left parts i) ≡ all
+pub part_more : (parts : List (Bor (List ℕ))) (i : ℕ) (d : Bor (List ℕ)) (old new : List ℕ)
+    (all : Option (List ℕ)) → i < length parts
+    → onto old (referred (get_or parts i d).now) ≡ Some new → onto old (left parts i) ≡ all
     → onto new (left parts (i + 1)) ≡ all
-part_more parts i part old new all h e r q =
-    sym (read_as old new (referred part.now) (left parts (i + 1)) r)
-    ∙ sym (ap (λ ps. onto old (all_referred (map (λ p. p.now) ps))) (rest_at parts i part h e)) ∙ q
-
-refused : (old : List ℕ) (read : Option (List ℕ)) (others : Option (List ℕ)) → onto old read ≡ None
-    → onto old (read >>= λ f. others >>= λ o. Some (f ++ o)) ≡ None
-refused old (Some first) others e = absurd cc
-refused old None others e = refl
-
-pub part_fails : (parts : List (Bor (List ℕ))) (i : ℕ) (part : Bor (List ℕ)) (old : List ℕ)
-    (all : Option (List ℕ)) → i < length parts → part ≡ get_or parts i part
-    → onto old (referred part.now) ≡ None → onto old (left parts i) ≡ all → all ≡ None
-part_fails parts i part old all h e r q =
-    sym q ∙ ap (λ ps. onto old (all_referred (map (λ p. p.now) ps))) (rest_at parts i part h e)
-    ∙ refused old (referred part.now) (left parts (i + 1)) r
-
-pub parts_done : (parts : List (Bor (List ℕ))) (i : ℕ) (old : List ℕ) (all : Option (List ℕ))
-    → length parts ≤ i → onto old (left parts i) ≡ all → all ≡ Some old
-parts_done parts i old all h q =
-    sym q ∙ at_drop_all (λ ps. onto old (all_referred (map (λ p. p.now) ps))) parts i h
-    ∙ ap Some (append-nil old)
+part_more parts i d old new all h r q =
+    sym (read_as old new (referred (get_or parts i d).now) (left parts (i + 1)) r)
+    ∙ sym (ap (λ ps. onto old (all_referred (map (λ p. p.now) ps))) (rest_at parts i d h)) ∙ q

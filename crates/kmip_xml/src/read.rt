@@ -70,8 +70,10 @@ fn read_turn<'a>(
     let Some(inner) = after("<", text) else {
         return Err(XmlError::Misfit(misfit_at(text, Wanted::Element)));
     };
-    let (tree, rest) = read_item(alloc, inner, levels, named)?;
-    Ok((Turn::Item(tree), rest))
+    match read_item(alloc, inner, levels, named) {
+        Ok((tree, rest)) => Ok((Turn::Item(tree), rest)),
+        Err(error) => Err(error),
+    }
 }
 
 /// Reads elements and comments up to the end of the text or of the element around.
@@ -83,15 +85,15 @@ fn read_contents(alloc: Global, text: &str, levels: u32) -> Result<(Trees, &str)
     let mut named = unnamed();
     let mut rest = text;
     for _ in 0..text.len() {
-        let (turn, after) = read_turn(alloc, rest, levels, named)?;
-        rest = after;
-        match turn {
-            Turn::End => return Ok((trees, rest)),
-            Turn::Comment => {}
-            Turn::Item(tree) => {
+        match read_turn(alloc, rest, levels, named) {
+            Ok((Turn::End, after)) => return Ok((trees, after)),
+            Ok((Turn::Comment, after)) => rest = after,
+            Ok((Turn::Item(tree), after)) => {
                 named = named_after(named, &tree);
                 trees.push(tree)?;
+                rest = after;
             }
+            Err(error) => return Err(error),
         }
     }
     Err(XmlError::Misfit(misfit_at(rest, Wanted::Element)))
@@ -112,10 +114,12 @@ fn read_inner<'a>(
     if closed {
         return Ok((Trees::new(alloc), text));
     }
-    let (items, rest) = read_contents(alloc, text, levels)?;
-    match end_tag(name, rest) {
-        Some(rest) => Ok((items, rest)),
-        None => Err(XmlError::Misfit(misfit_at(rest, Wanted::ElementEnd))),
+    match read_contents(alloc, text, levels) {
+        Ok((items, rest)) => match end_tag(name, rest) {
+            Some(behind) => Ok((items, behind)),
+            None => Err(XmlError::Misfit(misfit_at(rest, Wanted::ElementEnd))),
+        },
+        Err(error) => Err(error),
     }
 }
 
@@ -139,10 +143,12 @@ fn read_item<'a>(
         leaf,
         closed,
     } = start;
-    let (items, rest) = read_inner(alloc, name, closed, rest, levels - 1)?;
-    match whole(tag, leaf, items) {
-        Some(tree) => Ok((tree, rest)),
-        None => Err(XmlError::Misfit(misfit_at(text, Wanted::NoElement))),
+    match read_inner(alloc, name, closed, rest, levels - 1) {
+        Ok((items, behind)) => match whole(tag, leaf, items) {
+            Some(tree) => Ok((tree, behind)),
+            None => Err(XmlError::Misfit(misfit_at(text, Wanted::NoElement))),
+        },
+        Err(error) => Err(error),
     }
 }
 
@@ -202,9 +208,11 @@ pub fn from_xml(alloc: Global, text: &str) -> Result<Tree, XmlError>
     let Some(rest) = declared(text) else {
         return Err(XmlError::Misfit(misfit_at(text, Wanted::DeclarationEnd)));
     };
-    let (items, rest) = read_contents(alloc, rest, 64)?;
-    match only(items, rest) {
-        Some(tree) => Ok(tree),
-        None => Err(XmlError::Misfit(misfit_at(rest, Wanted::OneElement))),
+    match read_contents(alloc, rest, 64) {
+        Ok((items, behind)) => match only(items, behind) {
+            Some(tree) => Ok(tree),
+            None => Err(XmlError::Misfit(misfit_at(behind, Wanted::OneElement))),
+        },
+        Err(error) => Err(error),
     }
 }

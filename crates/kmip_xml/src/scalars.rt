@@ -1,5 +1,5 @@
 //! The value of an item that is no structure.
-ghost use Rattle.std.specs.Prelude.{◌≡◌, ℕ, IfOk, option_map, bytes_eq};
+ghost use Rattle.std.specs.Prelude.{◌≡◌, ◌==◌, ℕ, IfOk, option_map, bytes_eq};
 ghost use Rattle.std.specs.Fmt.{signed_decimal};
 ghost use Rattle.kmip_wire.specs.Sees.{tree_of_node};
 ghost use Rattle.kmip_wire.specs.Tree.{scalar, integer, long_integer, big_integer, boolean};
