@@ -264,7 +264,7 @@ fn main() -> ExitCode {
     match run() {
         Ok(()) => ExitCode::SUCCESS,
         Err(error) => {
-            eprintln!("{error}");
+            settings::say(&error);
             ExitCode::from(error.downcast_ref().map_or(1, |failure: &Failure| failure.1))
         }
     }
