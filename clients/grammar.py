@@ -14,10 +14,8 @@ import sys
 import textwrap
 
 TOP = os.path.dirname(os.path.dirname(os.path.abspath(__file__)))
-# The types of values in Python and in Rust, by the kinds of the table; the others are names of KMIP.
-PYTHON = {'Identifier': 'IDENTIFIER', 'Text': 'TEXT', 'Int': 'NUMBER', 'Seconds': 'DATE', 'Hex': 'BYTES',
-          'Request': 'BYTES', 'Uses': 'NAMES', 'Flag': 'FLAG'}
-RUST = {'Identifier': 'Identifier', 'Int': 'Number', 'Hex': 'Bytes', 'Request': 'Bytes'}
+# The types of values in Python, by the kinds of the table; the others are texts, and names of KMIP.
+PYTHON = {'Int': 'NUMBER', 'Seconds': 'NUMBER', 'Hex': 'BYTES', 'Request': 'BYTES', 'Uses': 'NAMES', 'Flag': 'FLAG'}
 # What the kinds that have no names are called in a manual.
 SAID = {'Identifier': 'an identifier', 'Text': 'a text', 'Int': 'a number', 'Seconds': 'seconds since 1970-01-01 UTC',
         'Flag': 'no value', 'Hex': 'bytes in hex digits'}
@@ -56,27 +54,15 @@ def filled(front, items, last, width=100, between=', '):
 
 def python_calls(grammar):
     def kind(word):
-        return PYTHON.get(word['kind'], 'NAME')
-
-    def options_of(options):
-        return ['%r: %s' % (bare(option), kind(option)) for option in options]
+        return PYTHON.get(word['kind'], 'TEXT')
     lines = ['CALLS: Dict[str, Tuple[Kind, ...]] = {']
     for call in grammar.calls:
         kinds = [kind(word) for word in grammar.words(call)]
         lines.append('    %r: (%s%s),' % (call['name'], ', '.join(kinds), ',' if len(kinds) == 1 else ''))
-    lines += ['}', '', *filled('ATTRIBUTES = {', options_of(grammar.attributes), '}'),
-              'OPTIONS: Dict[str, Dict[str, Kind]] = {']
-    for call in grammar.calls:
-        own = options_of(call['options'])
-        if not grammar.options(call):
-            continue
-        if not grammar.takes_attributes(call):
-            lines += filled('    %r: {' % call['name'], own, '},')
-        elif own:
-            lines += filled('    %r: {' % call['name'], ['**ATTRIBUTES', *own], '},')
-        else:
-            lines.append('    %r: ATTRIBUTES,' % call['name'])
-    return lines + ['}']
+    options = [option for call in grammar.calls for option in grammar.options(call)]
+    kinds = ['%r: %s' % (bare(option), kind(option)) for option in options if kind(option) != 'TEXT']
+    more = [repr(call['name']) for call in grammar.calls if call['rest'] == 'Names']
+    return [*lines, '}', 'MORE_TEXTS = {%s}' % ', '.join(more), *filled('OPTIONS = {', dict.fromkeys(kinds), '}')]
 
 
 def python_uses(grammar):
@@ -85,35 +71,14 @@ def python_uses(grammar):
             '    %s))}' % names[-1]]
 
 
-def c_calls(grammar):
-    attributes = ' '.join(map(bare, grammar.attributes))
-    lines = ['#define ATTRIBUTES " %s "' % attributes, 'static const struct {', '    const char *name;', '    size_t words;',
-             '    const char *options;', '} calls[] = {']
-    for call in grammar.calls:
-        own = ' '.join(map(bare, call['options']))
-        if grammar.takes_attributes(call):
-            options = 'ATTRIBUTES' + (' "%s "' % own if own else '')
-        else:
-            options = '" %s "' % own if own else '""'
-        lines.append('    {"%s", %d, %s},' % (call['name'], len(grammar.words(call)), options))
-    return lines + ['};']
-
-
 def rust_calls(grammar):
-    def listed(options):
-        return '&[%s]' % ', '.join('"%s"' % bare(option) for option in options)
-    lines = ['const ATTRIBUTES: &[&str] =', '    %s;' % listed(grammar.attributes)]
-    rows = []
-    for call in grammar.calls:
-        kinds = ', '.join('Kind::' + RUST.get(word['kind'], 'Text') for word in grammar.words(call))
-        options = listed(call['options'])
-        if grammar.takes_attributes(call):
-            options = 'ATTRIBUTES'
-            if call['options']:
-                options = 'CHANGES'
-                lines += ['const CHANGES: &[&str] =', '    %s;' % listed(grammar.options(call))]
-        rows.append('    ("%s", &[%s], %s),' % (call['name'], kinds, options))
-    return [*lines, 'const CALLS: [Call; %d] = [' % len(rows), *rows, '];']
+    def row(call):
+        kinds = [word['kind'] for word in grammar.words(call)]
+        places = [str(at) for at, kind in enumerate(kinds) if kind in ('Hex', 'Request')]
+        # Behind its words a call has options, or names that are no options, or options in the place of its words.
+        count = {'Names': 'usize::MAX', 'Attributes': 0}.get(call['rest'], len(kinds))
+        return '    ("%s", %s, &[%s]),' % (call['name'], count, ', '.join(places))
+    return ['const CALLS: [Call; %d] = [' % len(grammar.calls), *map(row, grammar.calls), '];']
 
 
 def shell_calls(grammar):
@@ -203,7 +168,6 @@ def page_calls(grammar):
 # Each file, with the block that it has of each name.
 BLOCKS = {
     'clients/python/metsuwan/calls.py': {'calls': python_calls, 'uses': python_uses},
-    'clients/c/metsuwan_words.c': {'calls': c_calls},
     'clients/rust/src/word.rs': {'calls': rust_calls},
     'clients/shell/kmip.sh': {'calls': shell_calls},
     'clients/shell/completion.bash': {'calls': completion_calls},

@@ -7,7 +7,7 @@
 #   TARGET/metsuwan_VERSION_amd64.deb               the same as a package of Debian
 #   TARGET/SHA256SUMS                               their sums: sha256sum -c SHA256SUMS
 #
-# VERSION is that of the sources, with what the library says of itself where that is not that it is proved: 1.0+not.proved.
+# VERSION is that of the sources, with what the library says of itself where that is not that it is proved: 2.0+not.proved.
 #
 #   --built FOLDER   the folder that `clients/build.sh --whole` made; `built` at the top of the repository where it is not
 #                    given. What it has not is left out, which is said

@@ -17,11 +17,12 @@ from pathlib import Path
 import encodings_tables
 import enumerations
 import names_page
+import plain_tables
 import tags
 from values import read_enumerations
 
 ROOT = Path(__file__).resolve().parent.parent
-WRITERS = [tags, enumerations, encodings_tables, names_page]
+WRITERS = [tags, enumerations, encodings_tables, plain_tables, names_page]
 HEAD = "Written by tables/generate.py from tables/*.toml: change these instead."
 COMMENTS = {".rt": "// {}", ".antt": "-- {}", ".rs": "// {}", ".py": "# {}", ".bash": "# {}", ".md": "<!-- {} -->"}
 

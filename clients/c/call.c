@@ -41,7 +41,7 @@ static bool is_open(int stream) {
 }
 
 /* A number of the environment, where it is set: false where it is none, or not up to `most`. */
-static bool read_number(const char *name, double most, double *into) {
+static bool read_variable(const char *name, double most, double *into) {
     const char *text = getenv(name);
     char *end = NULL;
     if (!text || !*text) return true;
@@ -146,9 +146,9 @@ int main(int argc, char **argv) {
     settings.password = getenv("KMIP_PASSWORD");
     settings.passphrase = getenv("KMIP_PASSPHRASE");
     double limit = settings.limit;
-    if (!read_number("KMIP_LIMIT", UINT32_MAX, &limit))
+    if (!read_variable("KMIP_LIMIT", UINT32_MAX, &limit))
         return misused("KMIP_LIMIT is no number of 0 to 4294967295");
-    if (!read_number("KMIP_TIMEOUT", 1e8, &settings.seconds))
+    if (!read_variable("KMIP_TIMEOUT", 1e8, &settings.seconds))
         return misused("KMIP_TIMEOUT is no number of seconds");
     settings.limit = (uint32_t)limit;
     if (!settings.user != !settings.password)

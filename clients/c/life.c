@@ -59,7 +59,7 @@ static void timed(const char *what, long count, const char *const *words) {
 }
 
 /* The public key and a signature, in files. */
-static void keep(const char *folder, const char *public_key, const char *private_key) {
+static void save_results(const char *folder, const char *public_key, const char *private_key) {
     size_t length = 0;
     need(kmip_call(client, "get", public_key, NULL) == KMIP_ANSWERED, "get");
     need(text_is("object_type", "PublicKey"), "this is no public key");
@@ -83,7 +83,7 @@ static void live(const char *folder, long count) {
     text_of("private_key", private_key, sizeof private_key);
     text_of("public_key", public_key, sizeof public_key);
     need(kmip_call(client, "activate", private_key, NULL) == KMIP_ANSWERED, "activate");
-    keep(folder, public_key, private_key);
+    save_results(folder, public_key, private_key);
     if (count > 0) {
         timed("query", 10 * count, (const char *const[]){NULL});
         timed("sign", count, (const char *const[]){private_key, HELLO, NULL});

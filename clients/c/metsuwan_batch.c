@@ -27,7 +27,8 @@ enum {
 /* A call, and what came of it. */
 typedef struct {
     char *name, *version, *payload; /* of a call of words the last two are null pointers, .. */
-    kmip_room line;                 /* .. and this has its words */
+    kmip_words words;               /* .. and these are its words, whose bytes .. */
+    kmip_room bytes;                /* .. are here */
     kmip_room request;
     size_t request_len;
     size_t place; /* that of its item in the response; 0: the server has not come to it */
@@ -105,7 +106,7 @@ typedef struct {
     bool failed;
 } writer;
 
-static void put(writer *out, const uint8_t *bytes, size_t count) {
+static void append(writer *out, const uint8_t *bytes, size_t count) {
     size_t room = out->room.room;
     if (!out->failed && count > room - out->length)
         out->failed = count > SIZE_MAX / 4 || room > SIZE_MAX / 4 ||
@@ -119,7 +120,7 @@ static void put_head(writer *out, uint32_t tag, uint8_t type, uint32_t length) {
     uint8_t head[HEAD];
     kmip_number_into(head, tag << 8 | type);
     kmip_number_into(head + 4, length);
-    put(out, head, HEAD);
+    append(out, head, HEAD);
 }
 
 /* An item of four bytes: an integer or an enumeration. */
@@ -127,7 +128,7 @@ static void put_number(writer *out, uint32_t tag, uint8_t type, uint32_t number)
     uint8_t value[8] = {0};
     kmip_number_into(value, number);
     put_head(out, tag, type, 4);
-    put(out, value, sizeof value);
+    append(out, value, sizeof value);
 }
 
 static void put_id(writer *out, uint64_t id) {
@@ -135,7 +136,7 @@ static void put_id(writer *out, uint64_t id) {
     kmip_number_into(value, (uint32_t)(id >> 32));
     kmip_number_into(value + 4, (uint32_t)id);
     put_head(out, ITEM_ID, BYTES, sizeof value);
-    put(out, value, sizeof value);
+    append(out, value, sizeof value);
 }
 
 /* Begins a structure, and says where its contents do. */
@@ -181,7 +182,7 @@ static void put_header(writer *out, const kmip_batch *batch, const part *first) 
             continue;
         }
         const part *chosen = own.tag == VERSION ? &version : &own;
-        put(out, chosen->whole, chosen->whole_len);
+        append(out, chosen->whole, chosen->whole_len);
     }
     end_structure(out, header);
 }
@@ -191,7 +192,7 @@ static void put_item(writer *out, const part *batch_item, uint64_t id) {
     part own = {0};
     size_t made = put_structure(out, BATCH_ITEM);
     while (next_part(batch_item, &own)) {
-        put(out, own.whole, own.whole_len);
+        append(out, own.whole, own.whole_len);
         if (own.tag == OPERATION) put_id(out, id);
     }
     end_structure(out, made);
@@ -221,7 +222,7 @@ static void put_header_of_one(writer *out, const part *header) {
         if (own.tag == BATCH_COUNT)
             put_number(out, BATCH_COUNT, INTEGER, 1);
         else
-            put(out, own.whole, own.whole_len);
+            append(out, own.whole, own.whole_len);
     }
     end_structure(out, made);
 }
@@ -231,7 +232,7 @@ static void put_item_alone(writer *out, const part *batch_item) {
     part own = {0};
     size_t made = put_structure(out, BATCH_ITEM);
     while (next_part(batch_item, &own))
-        if (own.tag != ITEM_ID) put(out, own.whole, own.whole_len);
+        if (own.tag != ITEM_ID) append(out, own.whole, own.whole_len);
     end_structure(out, made);
 }
 
@@ -246,7 +247,7 @@ static size_t write_single(const kmip_batch *batch, size_t place, kmip_room *int
         if (is_structure(&own, RESPONSE_HEADER))
             put_header_of_one(&out, &own);
         else if (own.tag != BATCH_ITEM)
-            put(&out, own.whole, own.whole_len);
+            append(&out, own.whole, own.whole_len);
         else if (own.whole == batch->response.bytes + place)
             put_item_alone(&out, &own);
     }
@@ -266,7 +267,7 @@ static const char *wrong_with_message(const part *message) {
 }
 
 /* The place of the call that a batch item of a response is of; the batch's count: it is of none. */
-static size_t place_of(const kmip_batch *batch, const part *batch_item) {
+static size_t place_of_call(const kmip_batch *batch, const part *batch_item) {
     part own = {0};
     size_t ids = 0;
     uint64_t place = batch->count;
@@ -336,7 +337,7 @@ static int give_each(kmip_batch *batch) {
     }
     own = (part){0};
     while (status == KMIP_ANSWERED && next_part(&message, &own))
-        if (own.tag == BATCH_ITEM) status = give(batch, place_of(batch, &own), &own);
+        if (own.tag == BATCH_ITEM) status = give(batch, place_of_call(batch, &own), &own);
     return status == KMIP_ANSWERED ? check_missing(batch) : status;
 }
 
@@ -344,36 +345,25 @@ static int give_each(kmip_batch *batch) {
 static int says_nothing(kmip_client *client) {
     static const char nothing[] = "{\"answer\":{}}";
     memcpy(client->line.bytes, nothing, sizeof nothing);
-    client->call.bytes[0] = 0;
     client->response_len = 0;
     return client->status = KMIP_ANSWERED;
 }
 
-/* Copies bytes to room that is made for them. */
-static bool copy_to(kmip_room *into, const uint8_t *bytes, size_t count) {
-    if (!kmip_room_has(into, count)) return false;
-    memcpy(into->bytes, bytes, count);
-    return true;
-}
-
 /* Has the answer to a call be the client's. */
 static int read_item(const kmip_batch *batch, const item *one) {
-    static const uint8_t none[1];
     kmip_client *client = batch->client;
-    const uint8_t *line = one->version ? none : one->line.bytes;
-    if (!copy_to(&client->call, line, strlen((const char *)line) + 1))
-        return kmip_says_no_memory(client);
     client->response_len = 0;
     if (one->place == 0)
         return kmip_says(client, KMIP_REFUSED, "NotDone",
                          "the server has not done this call of the batch");
     client->response_len = write_single(batch, one->place, &client->response);
     if (client->response_len == 0) return kmip_says_no_memory(client);
-    if (one->version) client->name = one->name;
+    client->words = one->words;
+    client->name = one->version ? one->name : NULL;
     client->version = one->version;
     client->payload = one->payload;
     int status = kmip_read_answer(client);
-    client->name = client->version = client->payload = NULL;
+    kmip_forget_call(client);
     return status;
 }
 
@@ -473,7 +463,8 @@ static void free_item(item *one) {
     kmip_copy_free(one->name);
     kmip_copy_free(one->version);
     kmip_copy_free(one->payload);
-    kmip_room_free(&one->line);
+    free(one->words.at);
+    kmip_room_free(&one->bytes);
     kmip_room_free(&one->request);
 }
 
@@ -491,7 +482,7 @@ size_t kmip_batch_count(const kmip_batch *batch) {
 }
 
 /* Room for one more call; false where memory runs out. */
-static bool has_room(kmip_batch *batch) {
+static bool has_room_for_call(kmip_batch *batch) {
     if (batch->count < batch->room) return true;
     size_t room = 2 * batch->room + 4;
     item *items = room < SIZE_MAX / sizeof *items ? calloc(room, sizeof *items) : NULL;
@@ -503,17 +494,37 @@ static bool has_room(kmip_batch *batch) {
     return true;
 }
 
-/* Adds the call whose request of this length the client has. */
-static int add(kmip_batch *batch, const char *name, const char *version, const char *payload,
-               size_t length) {
+/* Keeps the words of a call with their bytes, but for its name; false where memory runs out. */
+static bool keep_words(item *into, const kmip_words *words) {
+    size_t done = 0;
+    for (size_t i = 1; i < words->count; i++)
+        done += words->at[i].length;
+    into->words = kmip_words_of_array(into->name, words->at + 1, words->count - 1);
+    if (!into->words.at || !kmip_room_has(&into->bytes, done + 1)) return false;
+    done = 0;
+    for (size_t i = 1; i < words->count; i++) {
+        kmip_word *own = &into->words.at[i];
+        if (own->length > 0) memcpy(into->bytes.bytes + done, own->bytes, own->length);
+        own->bytes = into->bytes.bytes + done;
+        done += own->length;
+    }
+    return true;
+}
+
+/* A copy of the call that the client has; false where memory runs out. */
+static bool keep_call(item *into, const kmip_client *client) {
+    into->name = kmip_copy_of(client->operation);
+    if (client->words.at) return into->name && keep_words(into, &client->words);
+    into->version = kmip_copy_of(client->version);
+    into->payload = kmip_copy_of(client->payload);
+    return into->name && into->version && into->payload;
+}
+
+/* Adds the call that the client has, whose request has this length. */
+static int add(kmip_batch *batch, size_t length) {
     kmip_client *client = batch->client;
-    const char *line = (const char *)client->call.bytes;
-    item made = {.name = kmip_copy_of(name)};
-    if (version) made.version = kmip_copy_of(version);
-    if (payload) made.payload = kmip_copy_of(payload);
-    bool has_all = made.name && !made.version == !version && !made.payload == !payload &&
-                   copy_to(&made.line, (const uint8_t *)line, strlen(line) + 1) && has_room(batch);
-    if (!has_all) {
+    item made = {0};
+    if (!keep_call(&made, client) || !has_room_for_call(batch)) {
         free_item(&made);
         return kmip_out_of_memory(client);
     }
@@ -524,45 +535,63 @@ static int add(kmip_batch *batch, const char *name, const char *version, const c
     return says_nothing(client);
 }
 
-int kmip_batch_words(kmip_batch *batch, const char *call, const char *const *words) {
-    if (!batch) return KMIP_LOST;
+static int add_words(kmip_batch *batch, const char *call, kmip_words words) {
     kmip_client *client = batch->client;
-    kmip_queue queue;
     size_t length = 0;
-    kmip_queue_take(&queue);
     int status = kmip_begin(client, call);
-    if (status == KMIP_ANSWERED) status = kmip_make_call(client, call, words, &length);
-    if (status == KMIP_ANSWERED) status = add(batch, call, NULL, NULL, length);
-    kmip_queue_give_back(&queue);
+    if (status == KMIP_ANSWERED) status = kmip_make_call(client, words, false, &length);
+    if (status == KMIP_ANSWERED) status = add(batch, length);
+    kmip_forget_call(client);
+    return status;
+}
+
+/* Adds a call of words, whose room is freed. */
+static int add_given(kmip_batch *batch, const char *call, kmip_words words) {
+    int status = KMIP_LOST;
+    if (batch) {
+        kmip_queue queue;
+        kmip_queue_take(&queue);
+        status = add_words(batch, call, words);
+        kmip_queue_give_back(&queue);
+    }
+    free(words.at);
     return status;
 }
 
 int kmip_batch_call(kmip_batch *batch, const char *call, ...) {
     va_list given;
     va_start(given, call);
-    const char **words = kmip_words_of(given);
+    kmip_words words = kmip_words_of_list(call, given);
     va_end(given);
-    int status = KMIP_LOST;
-    if (words)
-        status = kmip_batch_words(batch, call, words);
-    else if (batch)
-        status = kmip_out_of_memory(batch->client);
-    free(words);
+    return add_given(batch, call, words);
+}
+
+int kmip_batch_words(kmip_batch *batch, const char *call, const char *const *words) {
+    return add_given(batch, call, kmip_words_of_texts(call, words));
+}
+
+int kmip_batch_array(kmip_batch *batch, const char *call, const kmip_word *words, size_t count) {
+    return add_given(batch, call, kmip_words_of_array(call, words, count));
+}
+
+static int add_operation(kmip_batch *batch, const char *name, const char *version,
+                         const char *payload) {
+    kmip_client *client = batch->client;
+    size_t length = 0;
+    int status = kmip_begin(client, name);
+    if (status == KMIP_ANSWERED)
+        status = kmip_make_operation(client, name, version, payload, false, &length);
+    if (status == KMIP_ANSWERED) status = add(batch, length);
+    kmip_forget_call(client);
     return status;
 }
 
 int kmip_batch_operation(kmip_batch *batch, const char *name, const char *version,
                          const char *payload) {
     if (!batch) return KMIP_LOST;
-    kmip_client *client = batch->client;
     kmip_queue queue;
-    size_t length = 0;
     kmip_queue_take(&queue);
-    int status = kmip_begin(client, name);
-    if (status == KMIP_ANSWERED)
-        status = kmip_make_operation(client, name, version, payload, &length);
-    client->name = client->version = client->payload = NULL;
-    if (status == KMIP_ANSWERED) status = add(batch, name, version, payload, length);
+    int status = add_operation(batch, name, version, payload);
     kmip_queue_give_back(&queue);
     return status;
 }

@@ -1,5 +1,5 @@
-/* The kinds of errors, as numbers of a program; and the errors that OpenSSL has queued in the
-   caller's thread, which are the caller's. */
+/* The kinds of errors, as numbers of a program, and what they are read from, the members of a line;
+   and the errors that OpenSSL has queued in the caller's thread, which are the caller's. */
 #define _POSIX_C_SOURCE 200809L
 #include "metsuwan_internal.h"
 
@@ -37,6 +37,47 @@ static const struct {
     {KMIP_KIND_GENERAL_FAILURE, "GeneralFailure"},
 };
 enum { REASONS = sizeof reasons / sizeof *reasons };
+
+/* What stands after the string that begins here; the end of the text, where it does not end. */
+static const char *past_string(const char *at) {
+    for (at++; *at && *at != '"'; at++)
+        if (*at == '\\' && at[1]) at++;
+    return *at ? at + 1 : at;
+}
+
+/* What stands after the value that begins here. */
+static const char *past_value(const char *at) {
+    size_t levels = 0;
+    while (*at && (levels > 0 || !strchr(",}]", *at))) {
+        if (*at == '"') {
+            at = past_string(at);
+            continue;
+        }
+        if (*at == '{' || *at == '[') levels++;
+        if (*at == '}' || *at == ']') levels--;
+        at++;
+    }
+    return at;
+}
+
+const char *kmip_member(const char *at, const char *name) {
+    size_t length = strlen(name);
+    while (*at == '{' || *at == ',') {
+        const char *own = at + 1;
+        if (*own != '"') break;
+        at = past_string(own);
+        if (*at != ':') break;
+        bool same = (size_t)(at - own) == length + 2 && memcmp(own + 1, name, length) == 0;
+        if (same) return at + 1;
+        at = past_value(at + 1);
+    }
+    return NULL;
+}
+
+bool kmip_is_tree(const char *line) {
+    const char *answer = kmip_member(line, "answer");
+    return answer && kmip_member(answer, "tag");
+}
 
 /* Whether the string of JSON that begins here is a name, whatever its case and with or without
    spaces: KMIP itself writes "Permission Denied", and its encodings "PermissionDenied". */

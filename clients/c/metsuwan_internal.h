@@ -28,6 +28,18 @@ HIDDEN void kmip_room_free(kmip_room *into);
 HIDDEN char *kmip_copy_of(const char *text);
 HIDDEN void kmip_copy_free(char *text);
 
+/* A call of words: its name, with a zero after it, and the words. A null pointer: memory ran out. */
+typedef struct {
+    kmip_word *at;
+    size_t count;
+} kmip_words;
+
+/* The words of a call, in room that is to be freed; their bytes are the caller's. Of an array that
+   has a null word those after it are left out. */
+HIDDEN kmip_words kmip_words_of_array(const char *call, const kmip_word *words, size_t count);
+HIDDEN kmip_words kmip_words_of_texts(const char *call, const char *const *texts);
+HIDDEN kmip_words kmip_words_of_list(const char *call, va_list given);
+
 /* A number of four bytes, as TTLV has it (KMIP 1.0, 9.1.1): read, and written. */
 static inline uint32_t kmip_number_at(const uint8_t *at) {
     return (uint32_t)at[0] << 24 | (uint32_t)at[1] << 16 | (uint32_t)at[2] << 8 | at[3];
@@ -51,11 +63,13 @@ struct kmip_client {
     bool sent;        /* whether a part of the last request was handed to a connection */
     bool torn;        /* whether the last exchange failed by its connection, and in time, .. */
     char reason[300]; /* .. and why */
-    kmip_room call, request, response, line, value, pem;
+    kmip_room request, response, line, value, pem;
     size_t request_len, response_len;
-    /* of any operation, while its call is made; else null pointers, .. */
+    /* while a call is made its words, or of any operation its three texts; else null pointers, .. */
+    kmip_words words;
     const char *name, *version, *payload;
-    /* .. and its Unique Batch Item ID, of no bytes in a batch, which has its own */
+    /* .. and its Unique Batch Item ID: of no bytes where it has none, as in a batch, whose own it
+       has */
     uint8_t item_id[8];
     size_t item_id_len;
     kmip_log *log;
@@ -66,19 +80,25 @@ struct kmip_client {
     double begun;          /* .. and when it began */
 };
 
-/* Begins a call: KMIP_ANSWERED, or the status of what went wrong. */
+/* Begins a call: KMIP_ANSWERED, or the status of what went wrong. At its end its words and texts are
+   forgotten. */
 HIDDEN int kmip_begin(kmip_client *client, const char *operation);
+HIDDEN void kmip_forget_call(kmip_client *client);
 
 /* Makes the request of a call, in client->request: KMIP_ANSWERED and its length, or the status of
-   what went wrong. After that of an operation its three texts stand in the client. */
-HIDDEN int kmip_make_call(kmip_client *client, const char *call, const char *const *words,
-                          size_t *length);
+   what went wrong. The words or the three texts then stand in the client. The request of a single
+   call, which is none of a batch, has a Unique Batch Item ID, but for that of a typed call. */
+HIDDEN int kmip_make_call(kmip_client *client, kmip_words words, bool is_single, size_t *length);
 HIDDEN int kmip_make_operation(kmip_client *client, const char *name, const char *version,
-                               const char *payload, size_t *length);
+                               const char *payload, bool is_single, size_t *length);
 
 /* Chooses a Unique Batch Item ID, which no answer to another call has: KMIP_ANSWERED, or the status
    of what went wrong. */
 HIDDEN int kmip_choose_item_id(kmip_client *client, uint8_t into[8]);
+
+/* Where the eight bytes of the Unique Batch Item ID stand in a request, which was made here; a null
+   pointer: it has none. */
+HIDDEN uint8_t *kmip_item_id_in(uint8_t *request);
 
 /* Whether a call of this name changes nothing, so that it may be made twice. */
 HIDDEN bool kmip_is_changeless(const char *operation);
@@ -98,7 +118,7 @@ HIDDEN int32_t kmip_line_of_operation(kmip_client *client, const char *name);
 /* Tells the log what came of a call, which is called so. */
 HIDDEN void kmip_tell_call(kmip_client *client, const char *call);
 
-/* Tells the record of the request, in which the credential and the ID of an operation are not left,
+/* Tells the record of the request, in which the credential and the ID of a single call are not left,
    and the response; false where memory ran out. */
 HIDDEN bool kmip_tell_record(kmip_client *client);
 
@@ -166,6 +186,9 @@ HIDDEN kmip_kind kmip_kind_of(const char *line, int status);
    pointer. */
 HIDDEN const char *kmip_member(const char *at, const char *name);
 
+/* Whether the answer of a line is a tree, an item of KMIP's JSON. */
+HIDDEN bool kmip_is_tree(const char *line);
+
 /* Writes {"error":..,"text":..}, in which the text is cut to the room. */
 HIDDEN void kmip_error_line(char *into, size_t room, const char *kind, const char *text);
 
@@ -173,10 +196,9 @@ HIDDEN void kmip_error_line(char *into, size_t room, const char *kind, const cha
    text that was. A byte that is not UTF-8 becomes a question mark. */
 HIDDEN size_t kmip_write_character(const char *text, char into[8]);
 
-/* Writes a value of the answer to an operation, whose line is given, to room that is made for it,
-   and says how many bytes it has, and that room has one more; -1: there is no such value, or memory
-   ran out. The path is one of kmip_text. */
-HIDDEN int64_t kmip_item_value(const char *line, const char *path, bool hex, kmip_room *into);
+/* Writes the value at a path of a line to room that is made for it, with a byte 0 after it, and says
+   how many bytes it has; -1: there is no such value, or memory ran out. */
+HIDDEN int64_t kmip_value_of(const char *line, const char *path, bool hex, kmip_room *into);
 
 /* Writes the payload of a request to register a certificate; or says what is wrong with it. Without
    bytes, memory ran out. `name` and `usage` may be null. */
@@ -198,19 +220,5 @@ HIDDEN const char *kmip_write_parts(kmip_room *into, size_t *length, const char 
 
 /* Whether a text is UTF-8. */
 HIDDEN bool kmip_is_utf8(const char *text);
-
-/* The words that are given, with a null pointer after them; a null pointer where memory runs out. */
-HIDDEN const char **kmip_words_of(va_list given);
-
-/* Writes a call and its words as the grammar has them; false where memory runs out. */
-HIDDEN bool kmip_write_words(kmip_room *into, const char *call, const char *const *words);
-
-/* Whether a call may be asked of the library: its name is one word. */
-HIDDEN bool kmip_may_ask(const char *call);
-
-/* Writes which word of a call is not of the grammar, and what may stand there, as the library says
-   it. */
-HIDDEN void kmip_say_wrong_word(char *into, size_t room, const char *call,
-                                const char *const *words);
 
 #endif

@@ -16,7 +16,7 @@
 static const char begin[] = "-----BEGIN CERTIFICATE-----", end[] = "-----END CERTIFICATE-----";
 
 /* Whether bytes are a sequence of DER (X.690, 8.1) and nothing after it. */
-static bool is_whole(const uint8_t *der, size_t count) {
+static bool is_sequence(const uint8_t *der, size_t count) {
     if (count < 2 || der[0] != 0x30) return false;
     if (der[1] < 0x80) return count == (size_t)der[1] + 2;
     size_t digits = (size_t)der[1] - 0x80, length = 0;
@@ -46,7 +46,7 @@ static int sextet(char made) {
 }
 
 /* Decodes base64 with white space anywhere, in its own place: how many bytes, or -1. */
-static int64_t decode(uint8_t *text, size_t count) {
+static int64_t decode_base64(uint8_t *text, size_t count) {
     uint32_t number = 0;
     size_t digits = 0, padding = 0, done = 0;
     for (size_t i = 0; i < count; i++) {
@@ -77,11 +77,11 @@ static const char *decode_pem(char **at, size_t *count) {
         return "the certificate is several in one PEM, and one at a time is registered";
     const char *last = strstr(own, end);
     if (!last) return "the certificate has no end in its PEM";
-    int64_t decoded = decode((uint8_t *)own, (size_t)(last - own));
+    int64_t decoded = decode_base64((uint8_t *)own, (size_t)(last - own));
     if (decoded < 0) return "the certificate is not base64 in its PEM";
     *at = own;
     *count = (size_t)decoded;
-    if (!is_whole((uint8_t *)own, *count))
+    if (!is_sequence((uint8_t *)own, *count))
         return "the certificate is not one whole structure of DER in its PEM";
     if (!is_certificate((uint8_t *)own, *count)) return no_certificate;
     return NULL;
@@ -202,7 +202,7 @@ static void put_payload(writer *out, const uint8_t *der, size_t count, const cha
 }
 
 /* A copy of bytes as a text, with a byte 0 after them; a null pointer where memory runs out. */
-static char *text_of(const uint8_t *bytes, size_t count) {
+static char *copy_as_text(const uint8_t *bytes, size_t count) {
     char *text = malloc(count + 1);
     if (!text) return NULL;
     if (count > 0) memcpy(text, bytes, count);
@@ -213,7 +213,7 @@ static char *text_of(const uint8_t *bytes, size_t count) {
 /* Writes the payload of a certificate that is no DER, and says what is wrong with it. */
 static const char *put_pem(writer *out, const uint8_t *pem, size_t count, const char *name,
                            int32_t uses) {
-    char *text = text_of(pem, count), *der = text;
+    char *text = copy_as_text(pem, count), *der = text;
     size_t room = count + 1;
     if (!text) {
         out->failed = true;
@@ -233,7 +233,7 @@ const char *kmip_write_certificate(kmip_room *into, const uint8_t *certificate, 
     const char *wrong = NULL;
     if (usage && uses == 0) return "usage is not names of KMIP";
     if (name && !kmip_is_utf8(name)) return "name is not UTF-8";
-    bool whole = is_whole(certificate, length);
+    bool whole = is_sequence(certificate, length);
     if (whole && !is_certificate(certificate, length)) return no_certificate;
     if (whole)
         put_payload(&out, certificate, length, name, uses);
@@ -445,7 +445,7 @@ static int64_t part(const char *line, const char *object, const char *tag, kmip_
                     const uint8_t **bytes) {
     char path[100];
     snprintf(path, sizeof path, "%s.KeyBlock.KeyValue.KeyMaterial.%s", object, tag);
-    int64_t count = kmip_item_value(line, path, true, room);
+    int64_t count = kmip_value_of(line, path, true, room);
     if (count < 0) return -1;
     for (*bytes = room->bytes; count > 0 && **bytes == 0; count--)
         (*bytes)++;
@@ -494,7 +494,7 @@ static size_t curve_of(const char *line, const char *object) {
     char path[100];
     kmip_room room = {NULL, 0};
     snprintf(path, sizeof path, "%s.KeyBlock.KeyValue.KeyMaterial.RecommendedCurve", object);
-    int64_t count = kmip_item_value(line, path, false, &room);
+    int64_t count = kmip_value_of(line, path, false, &room);
     size_t at = 0;
     while (at < CURVES && (count != (int64_t)strlen(curves[at].name) ||
                            memcmp(room.bytes, curves[at].name, (size_t)count) != 0))
@@ -620,7 +620,7 @@ static bool write_pem(kmip_room *into, const char *label, const uint8_t *bytes, 
    kept in `own`. A null pointer where there is none. */
 static const char *tree_of(kmip_client *client, kmip_room *own) {
     if (client->status != KMIP_ANSWERED || client->response_len == 0) return NULL;
-    if (client->call.bytes[0] == 0) return (const char *)client->line.bytes;
+    if (kmip_is_tree(kmip_line(client))) return kmip_line(client);
     kmip_room line = client->line;
     client->line = (kmip_room){NULL, 0};
     int32_t status = kmip_line_of_operation(client, "Get");
@@ -636,7 +636,7 @@ static bool name_at(const char *line, const char *object, const char *path, char
     char whole[100];
     size_t done = 0;
     snprintf(whole, sizeof whole, "%s%s", object, path);
-    int64_t length = kmip_item_value(line, whole, false, &room);
+    int64_t length = kmip_value_of(line, whole, false, &room);
     for (int64_t i = 0; i < length && done < 59; i++)
         if (room.bytes[i] != '_') into[done++] = (char)room.bytes[i];
     into[done] = 0;
@@ -658,7 +658,7 @@ static bool pem_of_tree(kmip_client *client, const char *line) {
             label = pems[i].label;
     snprintf(path, sizeof path, "%s.%s", kind,
              is_key ? "KeyBlock.KeyValue.KeyMaterial" : "CertificateValue");
-    int64_t found = label ? kmip_item_value(line, path, true, &der) : -1;
+    int64_t found = label ? kmip_value_of(line, path, true, &der) : -1;
     if (label && found < 0) label = NULL;
     if (label)
         length = (size_t)found;
@@ -673,7 +673,8 @@ static bool pem_of_tree(kmip_client *client, const char *line) {
 
 const char *kmip_pem(kmip_client *client) {
     if (!client || client->status != KMIP_ANSWERED) return NULL;
-    for (size_t i = 0; client->call.bytes[0] && i < sizeof pems / sizeof *pems; i++) {
+    bool is_tree = kmip_is_tree(kmip_line(client));
+    for (size_t i = 0; !is_tree && i < sizeof pems / sizeof *pems; i++) {
         if (!text_is(client, pems[i].format_at, pems[i].format)) continue;
         size_t length = 0;
         const uint8_t *bytes = kmip_bytes(client, pems[i].bytes_at, &length);

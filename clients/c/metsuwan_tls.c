@@ -8,6 +8,7 @@
 #include <stdio.h>
 #include <stdlib.h>
 #include <string.h>
+#include <strings.h>
 #include <unistd.h>
 
 #define HEAD 8
@@ -83,7 +84,6 @@ static void free_client(kmip_client *client) {
     kmip_copy_free(client->host);
     kmip_copy_free(client->port);
     SSL_CTX_free(client->again.context);
-    kmip_room_free(&client->call);
     kmip_room_free(&client->request);
     kmip_room_free(&client->response);
     kmip_room_free(&client->line);
@@ -249,61 +249,99 @@ static int wire_fails(kmip_client *client, const char *kind, const char *after) 
     return kmip_fails_as(client, KMIP_LOST, kind, client->reason);
 }
 
-static int wrong_words(kmip_client *client, const char *call, const char *const *words) {
-    char text[1200];
-    kmip_say_wrong_word(text, sizeof text, call, words);
-    return kmip_fails_as(client, KMIP_CALL_GRAMMAR, "GrammarError", text);
+/* How many bytes a request has at most, mostly: then it is made once. */
+static size_t likely_room(const kmip_client *client) {
+    size_t room = 4096;
+    if (client->payload) return room + strlen(client->payload);
+    for (size_t i = 0; i < client->words.count; i++)
+        if (client->words.at[i].length < SIZE_MAX / 4 - room) room += client->words.at[i].length;
+    return room;
 }
 
-/* The request, in room that is made for it; its length, or a negative number. */
-static int64_t make_request(kmip_client *client) {
-    const uint8_t *call = client->call.bytes;
-    size_t call_len = client->name ? 0 : strlen((const char *)call);
+/* Writes the request of the call that the client has, so far as it fits; its length, or a negative
+   number. */
+static int64_t write_request(kmip_client *client) {
+    const uint8_t *none = bytes_of("");
     bool has = client->user != NULL;
-    const uint8_t *user = has ? (const uint8_t *)client->user : call;
-    const uint8_t *password = has ? (const uint8_t *)client->password : call;
+    const uint8_t *user = has ? bytes_of(client->user) : none;
+    const uint8_t *password = has ? bytes_of(client->password) : none;
     size_t user_len = has ? strlen(client->user) : 0;
     size_t password_len = has ? strlen(client->password) : 0;
-    if (!kmip_room_has(&client->request, 4096)) return KMIP_LENGTH_MEMORY;
+    if (client->words.at)
+        return kmip_request(client->words.at, client->words.count, client->item_id,
+                            client->item_id_len, has, user, user_len, password, password_len,
+                            client->request.bytes, client->request.room);
+    return kmip_operation_request(bytes_of(client->name), strlen(client->name),
+                                  bytes_of(client->version), strlen(client->version),
+                                  client->item_id, client->item_id_len, bytes_of(client->payload),
+                                  strlen(client->payload), has, user, user_len, password,
+                                  password_len, client->request.bytes, client->request.room);
+}
+
+/* The same, in room that is made for it. */
+static int64_t make_request(kmip_client *client) {
+    if (!kmip_room_has(&client->request, likely_room(client))) return KMIP_LENGTH_MEMORY;
     for (;;) {
-        uint8_t *into = client->request.bytes;
-        size_t room = client->request.room;
-        int64_t length =
-            client->name
-                ? kmip_operation_request(bytes_of(client->name), strlen(client->name),
-                                         bytes_of(client->version), strlen(client->version),
-                                         client->item_id, client->item_id_len,
-                                         bytes_of(client->payload), strlen(client->payload), has,
-                                         user, user_len, password, password_len, into, room)
-                : kmip_request(call, call_len, has, user, user_len, password, password_len, into,
-                               room);
+        int64_t length = write_request(client);
         if (length < 0 || (uint64_t)length <= client->request.room) return length;
         if (!kmip_room_has(&client->request, (size_t)length)) return KMIP_LENGTH_MEMORY;
     }
+}
+
+/* Writes why there is no such call, so far as it fits; its length, or a negative number. */
+static int64_t write_refusal(kmip_client *client, size_t room) {
+    if (client->words.at)
+        return kmip_refusal(client->words.at, client->words.count, client->request.bytes, room);
+    return kmip_operation_refusal(bytes_of(client->name), strlen(client->name),
+                                  bytes_of(client->version), strlen(client->version),
+                                  bytes_of(client->payload), strlen(client->payload),
+                                  client->request.bytes, room);
+}
+
+/* Why there is no such call. The text stands where the request would, with a question mark for each
+   byte 0 of a word that it shows. */
+static int wrong_call(kmip_client *client) {
+    if (!kmip_room_has(&client->request, 4096)) return kmip_out_of_memory(client);
+    for (;;) {
+        char *text = (char *)client->request.bytes;
+        size_t room = client->request.room - 1;
+        int64_t length = write_refusal(client, room);
+        if (length < 0) return kmip_out_of_memory(client);
+        if ((uint64_t)length <= room) {
+            for (int64_t i = 0; i < length; i++)
+                if (!text[i]) text[i] = '?';
+            text[length] = 0;
+            return kmip_fails_as(client, KMIP_CALL_GRAMMAR, "GrammarError", text);
+        }
+        if (!kmip_room_has(&client->request, (size_t)length + 1)) return kmip_out_of_memory(client);
+    }
+}
+
+/* Writes the line of what the response answers, so far as it fits, and says how long it is. */
+static int32_t write_line(kmip_client *client, int64_t *length) {
+    uint8_t *into = client->line.bytes;
+    size_t room = client->line.room - 1;
+    if (client->words.at)
+        return kmip_answer(client->words.at, client->words.count, client->item_id,
+                           client->item_id_len, client->response.bytes, client->response_len, into,
+                           room, length);
+    return kmip_operation_answer(bytes_of(client->name), strlen(client->name),
+                                 bytes_of(client->version), strlen(client->version),
+                                 client->item_id, client->item_id_len, bytes_of(client->payload),
+                                 strlen(client->payload), client->response.bytes,
+                                 client->response_len, false, into, room, length);
 }
 
 /* Reads the response, and keeps its line; -1 where memory runs out. There is room at first for one
    that is bytes for the most part, of which the line has two digits each: what does not fit is made
    once more. */
 static int32_t line_of(kmip_client *client) {
-    size_t call_len = client->name ? 0 : strlen((const char *)client->call.bytes);
     size_t most = client->response_len;
     if (most <= (SIZE_MAX - 4096) / 2 && !kmip_room_has(&client->line, 2 * most + 4096)) return -1;
     for (;;) {
         int64_t length = 0;
+        int32_t status = write_line(client, &length);
         char *line = (char *)client->line.bytes;
-        const uint8_t *response = client->response.bytes;
-        uint8_t *into = client->line.bytes;
-        size_t room = client->line.room - 1;
-        int32_t status =
-            client->name
-                ? kmip_operation_answer(bytes_of(client->name), strlen(client->name),
-                                        bytes_of(client->version), strlen(client->version),
-                                        client->item_id, client->item_id_len,
-                                        bytes_of(client->payload), strlen(client->payload),
-                                        response, client->response_len, into, room, &length)
-                : kmip_answer(client->call.bytes, call_len, response, client->response_len, into,
-                              room, &length);
         if (length >= 0 && (uint64_t)length < client->line.room) {
             if (length > 0 && line[length - 1] == '\n') length--;
             line[length] = 0;
@@ -313,48 +351,65 @@ static int32_t line_of(kmip_client *client) {
     }
 }
 
-static const char no_items[] = "{\"tag\":\"RequestPayload\",\"value\":[]}";
-
 int32_t kmip_line_of_operation(kmip_client *client, const char *name) {
+    const kmip_words words = client->words;
+    client->words = (kmip_words){NULL, 0};
     client->name = name;
     client->version = "1.2";
-    client->payload = no_items;
+    client->payload = "{\"tag\":\"RequestPayload\",\"value\":[]}";
     int32_t status = line_of(client);
     client->name = client->version = client->payload = NULL;
+    client->words = words;
     return status;
 }
 
-/* Whether a word of a call stands for this text. In a word a byte that is special is `%` and two hex
-   digits; it ends with a space or with the line. */
-static bool stands_for(const char *word, const uint8_t *text, size_t length) {
-    static const char digits[] = "0123456789ABCDEF";
-    size_t at = 0;
-    for (; at < length && *word && *word != ' '; at++) {
-        const char *high = *word == '%' && word[1] ? strchr(digits, word[1]) : NULL;
-        const char *low = high && word[2] ? strchr(digits, word[2]) : NULL;
-        uint8_t byte = low ? (uint8_t)((high - digits) << 4 | (low - digits)) : (uint8_t)*word;
-        if (byte != text[at]) return false;
-        word += low ? 3 : 1;
+int64_t kmip_value_of(const char *line, const char *path, bool hex, kmip_room *into) {
+    if (!kmip_room_has(into, 256)) return -1;
+    for (;;) {
+        int64_t length = kmip_value(bytes_of(line), strlen(line), bytes_of(path), strlen(path), hex,
+                                    into->bytes, into->room - 1);
+        if (length < 0) return -1;
+        if ((uint64_t)length < into->room) {
+            into->bytes[length] = 0;
+            return length;
+        }
+        if (!kmip_room_has(into, (size_t)length + 1)) return -1;
     }
-    return at == length && (!*word || *word == ' ');
 }
 
-/* Whether the answer to an operation is about the object that this word names. */
-static bool is_about(kmip_client *client, const char *word) {
-    int64_t length =
-        kmip_item_value((char *)client->line.bytes, "UniqueIdentifier", false, &client->value);
-    return length >= 0 && stands_for(word, client->value.bytes, (size_t)length);
+static bool begins_with(const kmip_word *word, const char *front) {
+    size_t length = strlen(front);
+    return word->length >= length && memcmp(word->bytes, front, length) == 0;
+}
+
+/* The operation as which the answer to a call of words may be read, or a null pointer. What was to
+   be wrapped is not given as anything else. */
+static const char *operation_of(const kmip_words *words) {
+    const char *name = (const char *)words->at[0].bytes;
+    if (words->count < 2 || words->at[1].is_data) return NULL;
+    if (strcmp(name, "attributes") == 0) return "GetAttributes";
+    if (strcmp(name, "get") != 0) return NULL;
+    for (size_t i = 2; i < words->count; i++)
+        if (begins_with(&words->at[i], "wrap=")) return NULL;
+    return "Get";
+}
+
+/* Whether the answer to an operation is about the object that this word names, which may be the last
+   value that was read. */
+static bool is_about(const char *line, const kmip_word *word) {
+    kmip_room found = {NULL, 0};
+    int64_t length = kmip_value_of(line, "UniqueIdentifier", false, &found);
+    bool same = length >= 0 && (uint64_t)length == word->length &&
+                memcmp(found.bytes, word->bytes, word->length) == 0;
+    kmip_room_free(&found);
+    return same;
 }
 
 /* After a refusal: what the tables of a call have no words for, as a key of EC, is answered as the
    operation of the call has it, where the same bytes are a success of that. */
 static int answer_as_tree(kmip_client *client) {
-    const char *line = (const char *)client->call.bytes, *word = strchr(line, ' ');
-    const char *name = strncmp(line, "get ", 4) == 0           ? "Get"
-                       : strncmp(line, "attributes ", 11) == 0 ? "GetAttributes"
-                                                               : NULL;
-    /* What was to be wrapped is not given as anything else. */
-    if (!name || strstr(line, " wrap=")) return client->status;
+    const char *name = operation_of(&client->words);
+    if (!name) return client->status;
     kmip_room refusal = client->line;
     client->line = (kmip_room){NULL, 0};
     if (kmip_line_of_operation(client, name) != KMIP_ANSWERED) {
@@ -363,9 +418,7 @@ static int answer_as_tree(kmip_client *client) {
         return client->status;
     }
     kmip_room_free(&refusal);
-    bool about = is_about(client, word + 1);
-    client->call.bytes[0] = 0; /* values are those of the line */
-    if (about) return client->status = KMIP_ANSWERED;
+    if (is_about(kmip_line(client), &client->words.at[1])) return client->status = KMIP_ANSWERED;
     return kmip_says(client, KMIP_LOST, "InternalError", "the response is about another object");
 }
 
@@ -373,7 +426,7 @@ int kmip_read_answer(kmip_client *client) {
     int32_t status = line_of(client);
     if (status < 0) return kmip_says_no_memory(client);
     client->status = status;
-    return status == KMIP_REFUSED && !client->name ? answer_as_tree(client) : status;
+    return status == KMIP_REFUSED && client->words.at ? answer_as_tree(client) : status;
 }
 
 /* Reads what follows the head of a response of this length. What is announced may never come, so
@@ -460,7 +513,14 @@ int kmip_exchange(kmip_client *client, size_t request_len, bool is_changeless) {
     return status;
 }
 
+void kmip_forget_call(kmip_client *client) {
+    client->words = (kmip_words){NULL, 0};
+    client->name = client->version = client->payload = NULL;
+    client->item_id_len = 0;
+}
+
 int kmip_begin(kmip_client *client, const char *operation) {
+    kmip_forget_call(client);
     client->response_len = 0;
     client->status = KMIP_LOST;
     client->sent = false;
@@ -475,99 +535,13 @@ int kmip_begin(kmip_client *client, const char *operation) {
 
 bool kmip_is_changeless(const char *operation) {
     static const char names[] =
-        " query discover locate get attributes sign Query DiscoverVersions Locate Get GetAttributes"
-        " GetAttributeList Sign SignatureVerify Encrypt Decrypt MAC MACVerify Hash Check ";
+        " query discover locate get attributes sign encrypt decrypt mac mac-verify verify hash "
+        "check"
+        " attribute-list validate Query DiscoverVersions Locate Get GetAttributes GetAttributeList"
+        " Sign SignatureVerify Encrypt Decrypt MAC MACVerify Hash Check Validate ";
     char name[40];
     int length = snprintf(name, sizeof name, " %s ", operation);
     return length > 0 && (size_t)length < sizeof name && strstr(names, name);
-}
-
-/* Keeps the length of a request, or says why there is none. */
-static int made_request(kmip_client *client, int64_t length, size_t *into) {
-    if (length == KMIP_LENGTH_NO_FORM)
-        return kmip_fails_as(client, KMIP_REFUSED, "SerializeError", "request has no wire form");
-    if (length < 0) return kmip_out_of_memory(client);
-    *into = (size_t)length;
-    return KMIP_ANSWERED;
-}
-
-/* Makes the exchange of the request that was made, reads its answer, and tells the log. */
-static int exchange_of(kmip_client *client, size_t length) {
-    int status = kmip_exchange(client, length, kmip_is_changeless(client->operation));
-    if (status == KMIP_ANSWERED) status = kmip_ends_as(client, kmip_read_answer(client));
-    kmip_tell_call(client, client->operation);
-    return status;
-}
-
-/* Whether a word of `register` is a text of PEM, which would be kept as the bytes of a key. */
-static bool registers_pem(const char *call, const char *const *words) {
-    static const char begin[] = "2D2D2D2D2D424547494E20"; /* "-----BEGIN " */
-    bool found = false;
-    for (size_t i = 0; strcmp(call, "register") == 0 && words[i]; i++)
-        found = found || strncmp(words[i], begin, sizeof begin - 1) == 0 ||
-                strncmp(words[i], "2d2d2d2d2d424547494e20", sizeof begin - 1) == 0;
-    return found;
-}
-
-int kmip_make_call(kmip_client *client, const char *call, const char *const *words,
-                   size_t *length) {
-    if (!kmip_may_ask(call)) return wrong_words(client, call, words);
-    if (registers_pem(call, words))
-        return kmip_fails_as(client, KMIP_CALL_GRAMMAR, "GrammarError",
-                             "the key is PEM: kmip_register_private_key and .._public_key take it");
-    if (!kmip_write_words(&client->call, call, words)) return kmip_out_of_memory(client);
-    int64_t made = make_request(client);
-    if (made == KMIP_LENGTH_GRAMMAR) return wrong_words(client, call, words);
-    return made_request(client, made, length);
-}
-
-static int call_words(kmip_client *client, const char *call, const char *const *words) {
-    size_t length = 0;
-    int status = kmip_begin(client, call);
-    if (status == KMIP_ANSWERED) status = kmip_make_call(client, call, words, &length);
-    return status == KMIP_ANSWERED ? exchange_of(client, length) : status;
-}
-
-int kmip_call_words(kmip_client *client, const char *call, const char *const *words) {
-    if (!client) return KMIP_LOST;
-    kmip_queue queue;
-    kmip_queue_take(&queue);
-    int status = call_words(client, call, words);
-    kmip_queue_give_back(&queue);
-    return status;
-}
-
-/* Why the three texts of an operation in the client make no call. The text stands where the request
-   would. */
-static int wrong_operation(kmip_client *client) {
-    if (!kmip_room_has(&client->request, 4096)) return kmip_out_of_memory(client);
-    for (;;) {
-        char *text = (char *)client->request.bytes;
-        size_t room = client->request.room - 1;
-        int64_t length = kmip_operation_refusal(bytes_of(client->name), strlen(client->name),
-                                                bytes_of(client->version), strlen(client->version),
-                                                bytes_of(client->payload), strlen(client->payload),
-                                                client->request.bytes, room);
-        if (length < 0) return kmip_out_of_memory(client);
-        if ((uint64_t)length <= room) {
-            text[length] = 0;
-            return kmip_fails_as(client, KMIP_CALL_GRAMMAR, "GrammarError", text);
-        }
-        if (!kmip_room_has(&client->request, (size_t)length + 1)) return kmip_out_of_memory(client);
-    }
-}
-
-int kmip_make_operation(kmip_client *client, const char *name, const char *version,
-                        const char *payload, size_t *length) {
-    /* No words: values are those of the line. */
-    if (!kmip_room_has(&client->call, 1)) return kmip_out_of_memory(client);
-    client->call.bytes[0] = 0;
-    client->name = name;
-    client->version = version;
-    client->payload = payload;
-    int64_t made = make_request(client);
-    if (made == KMIP_LENGTH_GRAMMAR) return wrong_operation(client);
-    return made_request(client, made, length);
 }
 
 int kmip_choose_item_id(kmip_client *client, uint8_t into[8]) {
@@ -578,17 +552,127 @@ int kmip_choose_item_id(kmip_client *client, uint8_t into[8]) {
     return kmip_fails_as(client, KMIP_LOST, "RequestWriteError", text);
 }
 
+/* Has the ID of the request that was made, where that has one, be its own: that of a call before
+   stands in its place. So no typed call wants random bytes. */
+static int identify(kmip_client *client) {
+    uint8_t *id = kmip_item_id_in(client->request.bytes);
+    client->item_id_len = 0;
+    if (!id) return KMIP_ANSWERED;
+    int status = kmip_choose_item_id(client, client->item_id);
+    if (status != KMIP_ANSWERED) return status;
+    client->item_id_len = sizeof client->item_id;
+    memcpy(id, client->item_id, sizeof client->item_id);
+    return KMIP_ANSWERED;
+}
+
+/* Makes the request of the call that the client has, and says how long it is, or why there is
+   none. */
+static int made_request(kmip_client *client, bool is_single, size_t *into) {
+    client->item_id_len = is_single ? sizeof client->item_id : 0;
+    int64_t length = make_request(client);
+    if (length == KMIP_LENGTH_GRAMMAR) return wrong_call(client);
+    if (length == KMIP_LENGTH_NO_FORM)
+        return kmip_fails_as(client, KMIP_REFUSED, "SerializeError", "request has no wire form");
+    if (length < 0) return kmip_out_of_memory(client);
+    *into = (size_t)length;
+    return is_single ? identify(client) : KMIP_ANSWERED;
+}
+
+/* Makes the exchange of the request that was made, reads its answer, and tells the log. */
+static int exchange_of(kmip_client *client, size_t length) {
+    int status = kmip_exchange(client, length, kmip_is_changeless(client->operation));
+    if (status == KMIP_ANSWERED) status = kmip_ends_as(client, kmip_read_answer(client));
+    kmip_tell_call(client, client->operation);
+    return status;
+}
+
+/* Whether a word is the beginning of a text of PEM: as bytes, or as hex digits. */
+static bool is_pem(const kmip_word *word) {
+    static const char digits[] = "2D2D2D2D2D424547494E20"; /* "-----BEGIN " */
+    if (word->is_data) return begins_with(word, "-----BEGIN ");
+    return word->length >= sizeof digits - 1 &&
+           strncasecmp((const char *)word->bytes, digits, sizeof digits - 1) == 0;
+}
+
+/* What a call of these words would do that is not meant, or of which word there is none. */
+static const char *wrong_words(const kmip_words *words, char *into, size_t room) {
+    const char *name = (const char *)words->at[0].bytes;
+    bool registers = strcmp(name, "register") == 0;
+    for (size_t i = 1; i < words->count; i++) {
+        if (!words->at[i].bytes) {
+            snprintf(into, room, "%.30s: word %zu after it is a null pointer", name, i);
+            return into;
+        }
+        /* It would be kept as the bytes of a key. */
+        if (registers && is_pem(&words->at[i]))
+            return "the key is PEM: kmip_register_private_key and .._public_key take it";
+    }
+    return NULL;
+}
+
+int kmip_make_call(kmip_client *client, kmip_words words, bool is_single, size_t *length) {
+    char text[100];
+    if (!words.at) return kmip_out_of_memory(client);
+    const char *wrong = wrong_words(&words, text, sizeof text);
+    if (wrong) return kmip_fails_as(client, KMIP_CALL_GRAMMAR, "GrammarError", wrong);
+    client->words = words;
+    return made_request(client, is_single, length);
+}
+
+int kmip_make_operation(kmip_client *client, const char *name, const char *version,
+                        const char *payload, bool is_single, size_t *length) {
+    client->name = name;
+    client->version = version;
+    client->payload = payload;
+    return made_request(client, is_single, length);
+}
+
+static int call_words(kmip_client *client, const char *call, kmip_words words) {
+    size_t length = 0;
+    int status = kmip_begin(client, call);
+    if (status == KMIP_ANSWERED) status = kmip_make_call(client, words, true, &length);
+    if (status == KMIP_ANSWERED) status = exchange_of(client, length);
+    kmip_forget_call(client);
+    return status;
+}
+
+/* Makes a call of words, whose room is freed. */
+static int call_given(kmip_client *client, const char *call, kmip_words words) {
+    int status = KMIP_LOST;
+    if (client) {
+        kmip_queue queue;
+        kmip_queue_take(&queue);
+        status = call_words(client, call, words);
+        kmip_queue_give_back(&queue);
+    }
+    free(words.at);
+    return status;
+}
+
+int kmip_call(kmip_client *client, const char *call, ...) {
+    va_list given;
+    va_start(given, call);
+    kmip_words words = kmip_words_of_list(call, given);
+    va_end(given);
+    return call_given(client, call, words);
+}
+
+int kmip_call_words(kmip_client *client, const char *call, const char *const *words) {
+    return call_given(client, call, kmip_words_of_texts(call, words));
+}
+
+int kmip_call_array(kmip_client *client, const char *call, const kmip_word *words, size_t count) {
+    return call_given(client, call, kmip_words_of_array(call, words, count));
+}
+
 static int operation(kmip_client *client, const char *name, const char *version,
                      const char *payload) {
     size_t length = 0;
     int status = kmip_begin(client, name);
-    if (status == KMIP_ANSWERED) status = kmip_choose_item_id(client, client->item_id);
-    if (status == KMIP_ANSWERED) client->item_id_len = sizeof client->item_id;
     if (status == KMIP_ANSWERED)
-        status = kmip_make_operation(client, name, version, payload, &length);
+        status = kmip_make_operation(client, name, version, payload, true, &length);
     if (status == KMIP_ANSWERED) status = exchange_of(client, length);
-    client->name = client->version = client->payload = NULL;
-    client->item_id_len = 0;
+    kmip_forget_call(client);
     return status;
 }
 
@@ -658,70 +742,6 @@ int kmip_register_secret(kmip_client *client, const void *data, size_t length, c
     return register_object(client, kind && !is_key ? kind : "none", data, length, name, usage);
 }
 
-/* The place of the first word that is null; `count`: none is. */
-static size_t null_word(const char *const *words, size_t count) {
-    size_t at = 0;
-    while (at < count && words[at])
-        at++;
-    return at;
-}
-
-/* Makes a call of words that are counted, with room for a null pointer after them. */
-static int call_counted(kmip_client *client, const char *call, const char *const *words,
-                        size_t count) {
-    char text[100];
-    size_t null = null_word(words, count);
-    if (null < count) {
-        int status = kmip_begin(client, call);
-        snprintf(text, sizeof text, "%.30s: word %zu after it is a null pointer", call, null + 1);
-        return status == KMIP_ANSWERED
-                   ? kmip_fails_as(client, KMIP_CALL_GRAMMAR, "GrammarError", text)
-                   : status;
-    }
-    const char **ended = count < SIZE_MAX / sizeof *ended ? calloc(count + 1, sizeof *ended) : NULL;
-    if (!ended) return kmip_out_of_memory(client);
-    if (count > 0) memcpy(ended, words, count * sizeof *ended);
-    int status = kmip_call_words(client, call, ended);
-    free(ended);
-    return status;
-}
-
-int kmip_call_array(kmip_client *client, const char *call, const char *const *words, size_t count) {
-    if (!client) return KMIP_LOST;
-    kmip_queue queue;
-    kmip_queue_take(&queue);
-    int status = call_counted(client, call, words, count);
-    kmip_queue_give_back(&queue);
-    return status;
-}
-
-const char **kmip_words_of(va_list given) {
-    va_list counted;
-    size_t count = 0;
-    va_copy(counted, given);
-    while (va_arg(counted, const char *))
-        count++;
-    va_end(counted);
-    const char **words = calloc(count + 1, sizeof *words);
-    for (size_t i = 0; words && i < count; i++)
-        words[i] = va_arg(given, const char *);
-    return words;
-}
-
-int kmip_call(kmip_client *client, const char *call, ...) {
-    va_list given;
-    va_start(given, call);
-    const char **words = kmip_words_of(given);
-    va_end(given);
-    int status = KMIP_LOST;
-    if (words)
-        status = kmip_call_words(client, call, words);
-    else if (client)
-        status = kmip_out_of_memory(client);
-    free(words);
-    return status;
-}
-
 const char *kmip_line(const kmip_client *client) {
     return client && client->line.bytes ? (const char *)client->line.bytes : "";
 }
@@ -737,45 +757,25 @@ bool kmip_was_sent(const kmip_client *client) {
     return client && client->sent;
 }
 
-/* The same of the answer to an operation, which is looked up in its line. */
-static bool take_item(kmip_client *client, const char *path, bool hex, size_t *length) {
-    int64_t found = kmip_item_value(kmip_line(client), path, hex, &client->value);
+/* Writes the value at a path of the last answer to client->value, with a byte 0 after it. */
+static bool take_value(kmip_client *client, const char *path, bool hex, size_t *length) {
+    if (!client || client->status != KMIP_ANSWERED) return false;
+    int64_t found = kmip_value_of(kmip_line(client), path, hex, &client->value);
     if (found < 0) return false;
-    client->value.bytes[found] = 0;
     *length = (size_t)found;
     return true;
 }
 
-/* Writes the value at a path of the last answer to client->value, with a byte 0 after it. */
-static bool take(kmip_client *client, const char *path, bool hex, size_t *length) {
-    if (!client || client->status != KMIP_ANSWERED) return false;
-    if (!kmip_room_has(&client->value, 4096)) return false;
-    const char *call = (const char *)client->call.bytes;
-    if (!*call) return take_item(client, path, hex, length);
-    for (;;) {
-        int64_t found = kmip_value(client->call.bytes, strlen(call), client->response.bytes,
-                                   client->response_len, (const uint8_t *)path, strlen(path), hex,
-                                   client->value.bytes, client->value.room - 1);
-        if (found < 0) return false;
-        if ((uint64_t)found < client->value.room) {
-            client->value.bytes[found] = 0;
-            *length = (size_t)found;
-            return true;
-        }
-        if (!kmip_room_has(&client->value, (size_t)found + 1)) return false;
-    }
-}
-
 const uint8_t *kmip_bytes(kmip_client *client, const char *path, size_t *length) {
     size_t found = 0;
-    if (!take(client, path, true, &found)) return NULL;
+    if (!take_value(client, path, true, &found)) return NULL;
     if (length) *length = found;
     return client->value.bytes;
 }
 
 const char *kmip_text(kmip_client *client, const char *path, size_t *length) {
     size_t found = 0;
-    if (!take(client, path, false, &found)) return NULL;
+    if (!take_value(client, path, false, &found)) return NULL;
     const char *text = (const char *)client->value.bytes;
     if (!length && strlen(text) != found) return NULL;
     if (length) *length = found;

@@ -70,10 +70,10 @@ typedef void kmip_log(void *data, const kmip_event *event);
 /* A record. It is told of each exchange whose whole response came, also of an operation and of a
    batch, one line that ends with a line feed and, after `length` bytes, a byte 0:
 
-       raw REQUEST RESPONSE          both in hex, the request without its credential and, of an
-                                     operation, its Unique Batch Item ID: kmip_run replay
+       raw REQUEST RESPONSE          both in hex, the request without its credential and, of a
+                                     single call, its Unique Batch Item ID: kmip_run replay
                                      (docs/PROGRAM.md) answers the line again
-       message REQUEST RESPONSE      kmip_run has no such call, as Encrypt, or a batch
+       message REQUEST RESPONSE      kmip_run has no such call, as encrypt or Encrypt, or a batch
 
    Keys stand in it where they were sent or given. It is called within a call of a client, which it
    may not use; what it cannot write is its own to tell. */
@@ -105,7 +105,8 @@ typedef void kmip_record(void *data, const char *line, size_t length);
                   server's certificate is verified, has to name the host, and TLS is 1.2 or later
    reconnect      a connection that is lost is opened again for the next call, with no file read
                   again. A call itself is made again, once, where nothing of it was sent, or where
-                  it changes nothing (query, discover, locate, get, attributes, sign; Encrypt,
+                  it changes nothing (query, discover, locate, get, attributes, sign, encrypt,
+                  decrypt, mac, mac-verify, verify, hash, check, attribute-list, validate; Encrypt,
                   Decrypt, MAC, SignatureVerify and the like; a batch of these), and not where its
                   time was over. The log is told
    log, log_data  what is told of each call, and what it is given; null: nobody
@@ -166,23 +167,28 @@ int kmip_connect(const kmip_settings *settings, kmip_client **client, char *erro
    `reconnect` each further call is KMIP_LOST: close the client, and open another. A null client is
    KMIP_LOST too.
 
-   The words after the first are texts, identifiers, numbers or hex digits; each is written as the
-   grammar wants it. The last is followed by a null pointer:
+   The call is one of metsuwan.h, a typed one or one of the table, as `encrypt`. Its words are texts
+   as they are, identifiers, names and numbers, and in place of data hex digits. The last is followed
+   by a null pointer:
 
-       kmip_call(client, "rename", "4", "issuing key", NULL)
+       kmip_call(client, "rename", "4", "issuing key, 50%", NULL)
 
    Options stand after the other words, each as NAME=TEXT:
 
        kmip_call(client, "sign", "4", "68656C6C6F", "hash=SHA384", "padding=PSS", NULL)
+       kmip_call(client, "encrypt", "5", "68656C6C6F", "mode=CBC", "random-iv=true", NULL)
 
    An empty identifier is KMIP_CALL_GRAMMAR: a server may take it for the last object that was made
-   on the connection. So is a call's name with a space, and `sign` with both `prehashed` and
-   `hash=`: KMIP 1.2 has no digested data, and the server would digest the digest.
+   on the connection. So is `sign` with both `prehashed` and `hash=`: KMIP 1.2 has no digested data,
+   and the server would digest the digest. So are the bytes of a PEM for `register`.
 
    `locate` takes a single word as a name, whatever stands in it. Attributes stand behind `where`,
    which may be left out before two or more:
 
-       kmip_call(client, "locate", "where", "state=Active", NULL) */
+       kmip_call(client, "locate", "where", "state=Active", NULL)
+
+   The request of a call of the table has eight random bytes as its Unique Batch Item ID, as that of
+   kmip_operation, which says what that means. */
 int kmip_call(kmip_client *client, const char *call, ...) KMIP_ENDS_WITH_NULL;
 
 /* What the words of kmip_call end with: a null pointer, which NULL is where it is one of C's own.
@@ -193,9 +199,14 @@ int kmip_call(kmip_client *client, const char *call, ...) KMIP_ENDS_WITH_NULL;
 /* The same, with the words in an array that ends with a null pointer. */
 int kmip_call_words(kmip_client *client, const char *call, const char *const *words);
 
-/* The same, with so many words, of which none may be null: that is KMIP_CALL_GRAMMAR. `words` may
-   be null where there are none. */
-int kmip_call_array(kmip_client *client, const char *call, const char *const *words, size_t count);
+/* The same, with so many words, each a text or data of any length and with any bytes:
+
+       kmip_word words[] = {kmip_text_word("5"), kmip_data_word(data, count),
+                            kmip_text_word("mode=ECB")};
+       kmip_call_array(client, "encrypt", words, 3)
+
+   A word whose `bytes` are null is KMIP_CALL_GRAMMAR. `words` may be null where there are none. */
+int kmip_call_array(kmip_client *client, const char *call, const kmip_word *words, size_t count);
 
 /* Makes a call of any operation of KMIP 1.0 to 1.2, and returns its status, as kmip_call does. Its
    name, its version and its payload are those of kmip_operation_request, each a text:
@@ -275,7 +286,7 @@ kmip_batch *kmip_batch_new(kmip_client *client, kmip_on_error on_error);
    request has no wire form; kmip_line says why, and the batch is as it was. */
 int kmip_batch_call(kmip_batch *batch, const char *call, ...) KMIP_ENDS_WITH_NULL;
 int kmip_batch_words(kmip_batch *batch, const char *call, const char *const *words);
-int kmip_batch_array(kmip_batch *batch, const char *call, const char *const *words, size_t count);
+int kmip_batch_array(kmip_batch *batch, const char *call, const kmip_word *words, size_t count);
 int kmip_batch_operation(kmip_batch *batch, const char *name, const char *version,
                          const char *payload);
 
@@ -359,12 +370,15 @@ bool kmip_was_sent(const kmip_client *client);
    stands for, or as text. A byte 0 follows it, which `length` does not count. A null pointer where
    the last call was not answered, its answer has no such value, or memory ran out.
 
+       kmip_text(client, "attributes.0.name", NULL)
+       kmip_bytes(client, "data", &length)         what was encrypted by a call of words
+
    After kmip_operation, and after a `get` or `attributes` of what the tables of these calls have no
-   words for, as a key of EC or HMAC (the line then begins with {"answer":{"tag":), the path is one
-   of tags below the response's payload, with a dot between two, as KeyBlock.KeyFormatType. A number after a tag counts, from 0, among the items with this
-   tag: Attribute.1.AttributeName. kmip_bytes has Byte Strings and Big Integers; kmip_text a text
-   without its quotes and escapes, an Enumeration by its name, or as 0x00000001, a mask by the names
-   of its bits, as Encrypt|Decrypt, and numbers, dates and booleans as the line writes them.
+   words for, as a key of EC or HMAC, the answer is a tree (the line then begins with
+   {"answer":{"tag":), and the path is one of tags below the response's payload, as
+   KeyBlock.KeyFormatType or Attribute.1.AttributeName. kmip_text has an Enumeration by its name, or
+   as 0x00000001, a mask by the names of its bits, as Encrypt|Decrypt, and numbers, dates and
+   booleans as the line writes them.
 
    `length` may be null. Where it is, kmip_text is null for a text that has a byte 0 within, which C
    would take for its end.
@@ -379,9 +393,6 @@ const char *kmip_text(kmip_client *client, const char *path, size_t *length);
    parts are told one by one, or a certificate in X.509. A null pointer where there is none of these,
    as for a key that is wrapped. */
 const char *kmip_pem(kmip_client *client);
-
-/* Writes a text as a word of a call: 0, or -1 where it does not fit. */
-int kmip_word(const char *text, char *into, size_t room);
 
 /* Ends the connection, at once whatever the server does, and frees what belongs to it; texts, keys
    and the password are overwritten first. A null pointer is fine. */

@@ -1,4 +1,4 @@
-/* The words of a call as the grammar has them, and the lines of errors. */
+/* The words of a call as the library takes them, texts, and the lines of errors. */
 #define _POSIX_C_SOURCE 200809L
 #include "metsuwan_internal.h"
 
@@ -7,79 +7,47 @@
 #include <stdlib.h>
 #include <string.h>
 
-/* The calls, how many words each has, and the options that may stand after them, as `hash` for the
-   word "hash=SHA384". The library alone says what is of the grammar; this says which words are
-   options, whose names are no texts. */
-/* clients/grammar.py: calls */
-#define ATTRIBUTES " name group contact type state algorithm length activation "
-static const struct {
-    const char *name;
-    size_t words;
-    const char *options;
-} calls[] = {
-    {"query", 0, ""},
-    {"discover", 0, ""},
-    {"create-rsa", 3, " private-usage public-usage "},
-    {"create-aes", 2, ""},
-    {"create", 3, " usage "},
-    {"register", 2, " format algorithm length usage name "},
-    {"locate", 1, ATTRIBUTES},
-    {"attributes", 1, ""},
-    {"attribute-add", 1, ATTRIBUTES},
-    {"attribute-modify", 1, ATTRIBUTES "index "},
-    {"attribute-delete", 2, " index "},
-    {"activate", 1, ""},
-    {"sign", 2, " hash padding algorithm prehashed "},
-    {"rename", 2, ""},
-    {"get", 1, " format wrap "},
-    {"revoke", 1, " reason message since "},
-    {"destroy", 1, ""},
-    {"rng", 1, ""},
-    {"raw", 1, ""},
-};
-/* clients/grammar.py: end */
-enum { CALLS = sizeof calls / sizeof *calls };
-
-/* Where a call stands in the table; CALLS: it is none. */
-static size_t place_of(const char *call) {
-    size_t at = 0;
-    while (at < CALLS && strcmp(calls[at].name, call) != 0)
-        at++;
-    return at;
+/* Room for the words of a call, with its name, which is one of them. */
+static kmip_words room_for_words(const char *call, size_t count) {
+    bool fits = count < SIZE_MAX / sizeof(kmip_word);
+    kmip_words made = {fits ? calloc(count + 1, sizeof(kmip_word)) : NULL, 0};
+    if (!made.at) return made;
+    made.at[0] = kmip_text_word(call);
+    made.count = count + 1;
+    return made;
 }
 
-/* Whether a word is one of these options, as "hash=SHA384" or "prehashed". */
-static bool is_option(const char *options, const char *word) {
-    size_t length = strcspn(word, "=");
-    char name[24];
-    if (strspn(word, "abcdefghijklmnopqrstuvwxyz-") != length || length + 3 > sizeof name)
-        return false;
-    if (!word[length] && strcmp(word, "prehashed") != 0) return false;
-    snprintf(name, sizeof name, " %.*s ", (int)length, word);
-    return strstr(options, name) != NULL;
+kmip_words kmip_words_of_array(const char *call, const kmip_word *words, size_t count) {
+    size_t taken = 0;
+    while (taken < count && words[taken].bytes)
+        taken++;
+    if (taken < count) taken++; /* the null one, which kmip_make_call refuses */
+    kmip_words made = room_for_words(call, taken);
+    if (made.at && taken > 0) memcpy(made.at + 1, words, taken * sizeof *words);
+    return made;
 }
 
-static bool is_locate(const char *call) {
-    return strcmp(call, "locate") == 0;
-}
-
-/* How many words of `locate` stand before attributes: a single word is a name, whatever it is, and
-   more are attributes, behind `where` or without it. */
-static size_t words_before_attributes(const char *const *words) {
-    if (!words[0] || !words[1]) return words[0] != NULL;
-    return strcmp(words[0], "where") == 0;
-}
-
-/* How many words of a call stand before its options. */
-static size_t plain_count(const char *call, const char *const *words) {
-    size_t at = place_of(call), count = 0, own;
-    while (words[count])
+kmip_words kmip_words_of_texts(const char *call, const char *const *texts) {
+    size_t count = 0;
+    while (texts[count])
         count++;
-    if (at == CALLS) return count;
-    own = is_locate(call) ? words_before_attributes(words) : calls[at].words;
-    for (size_t i = own; i < count; i++)
-        if (!is_option(calls[at].options, words[i])) return count;
-    return own < count ? own : count;
+    kmip_words made = room_for_words(call, count);
+    for (size_t i = 0; made.at && i < count; i++)
+        made.at[i + 1] = kmip_text_word(texts[i]);
+    return made;
+}
+
+kmip_words kmip_words_of_list(const char *call, va_list given) {
+    va_list counted;
+    size_t count = 0;
+    va_copy(counted, given);
+    while (va_arg(counted, const char *))
+        count++;
+    va_end(counted);
+    kmip_words made = room_for_words(call, count);
+    for (size_t i = 0; made.at && i < count; i++)
+        made.at[i + 1] = kmip_text_word(va_arg(given, const char *));
+    return made;
 }
 
 bool kmip_room_has(kmip_room *into, size_t room) {
@@ -109,67 +77,6 @@ char *kmip_copy_of(const char *text) {
 void kmip_copy_free(char *text) {
     if (text) OPENSSL_cleanse(text, strlen(text));
     free(text);
-}
-
-int kmip_word(const char *text, char *into, size_t room) {
-    static const char safe[] = "ABCDEFGHIJKLMNOPQRSTUVWXYZabcdefghijklmnopqrstuvwxyz0123456789._~-";
-    static const char digits[] = "0123456789ABCDEF";
-    /* The empty text is written "-", and the text "-" with an escape. */
-    bool escape = strcmp(text, "-") == 0;
-    if (!*text && room < 2) return -1;
-    if (!*text) *into++ = '-';
-    for (; *text; text++) {
-        unsigned char byte = (unsigned char)*text;
-        bool plain = !escape && strchr(safe, byte);
-        size_t width = plain ? 1 : 3;
-        if (room <= width) return -1;
-        if (plain) {
-            *into = *text;
-        } else {
-            into[0] = '%';
-            into[1] = digits[byte >> 4];
-            into[2] = digits[byte & 15];
-        }
-        into += width;
-        room -= width;
-    }
-    *into = 0;
-    return 0;
-}
-
-/* Writes an option: its name and `=` as they are, and its value as a word, in which the names of
-   several uses are kept apart by `,`. */
-static int write_option(const char *word, char *into, size_t room) {
-    static const char names[] = "ABCDEFGHIJKLMNOPQRSTUVWXYZabcdefghijklmnopqrstuvwxyz0123456789_,";
-    size_t name = strcspn(word, "=");
-    if (!word[name]) return kmip_word(word, into, room);
-    name++;
-    if (room <= name) return -1;
-    memcpy(into, word, name);
-    bool of_names = strstr(word, "usage=") && strstr(word, "usage=") < word + name;
-    if (!of_names || word[name + strspn(word + name, names)])
-        return kmip_word(word + name, into + name, room - name);
-    return snprintf(into + name, room - name, "%s", word + name) < (int)(room - name) ? 0 : -1;
-}
-
-bool kmip_write_words(kmip_room *into, const char *call, const char *const *words) {
-    size_t done = strlen(call), plain = plain_count(call, words);
-    if (!kmip_room_has(into, done + 1) || !into->bytes) return false;
-    memcpy(into->bytes, call, done + 1);
-    for (size_t i = 0; words[i]; i++) {
-        size_t most = 3 * strlen(words[i]) + 2;
-        if (!kmip_room_has(into, done + most + 1)) return false;
-        into->bytes[done] = ' ';
-        char *word = (char *)into->bytes + done + 1;
-        int made = i < plain ? kmip_word(words[i], word, most) : write_option(words[i], word, most);
-        if (made != 0) return false;
-        done += strlen((char *)into->bytes + done);
-    }
-    return true;
-}
-
-bool kmip_may_ask(const char *call) {
-    return *call && !strpbrk(call, " \n");
 }
 
 /* How many bytes the character at the front of a text has in UTF-8 (RFC 3629, 4); 0: it is none. */
@@ -232,34 +139,4 @@ void kmip_error_line(char *into, size_t room, const char *kind, const char *text
         done += width;
     }
     memcpy(into + done, end, sizeof end);
-}
-
-/* Why the library takes no call of these words, in room that is to be freed. */
-static bool refusal_of(kmip_room *text, const char *call, const char *const *words) {
-    kmip_room line = {NULL, 0};
-    int64_t length = KMIP_LENGTH_MEMORY;
-    size_t room = 512;
-    if (kmip_write_words(&line, call, words)) {
-        do {
-            if (!kmip_room_has(text, room + 1)) break;
-            length = kmip_refusal(line.bytes, strlen((char *)line.bytes), text->bytes, room);
-            if (length < 0 || (size_t)length <= room) break;
-            room = (size_t)length;
-        } while (true);
-    }
-    kmip_room_free(&line);
-    if (length < 0 || (size_t)length > room) return false;
-    text->bytes[length] = 0;
-    return true;
-}
-
-void kmip_say_wrong_word(char *into, size_t room, const char *call, const char *const *words) {
-    kmip_room text = {NULL, 0};
-    if (!kmip_may_ask(call))
-        snprintf(into, room, "the name of a call is one word, and this is none: %.60s", call);
-    else if (refusal_of(&text, call, words))
-        snprintf(into, room, "%s", (char *)text.bytes);
-    else
-        snprintf(into, room, "%.60s and its words are not of the grammar", call);
-    kmip_room_free(&text);
 }

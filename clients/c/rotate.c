@@ -12,7 +12,7 @@
 static kmip_client *client;
 
 /* Ends the program where a call was not answered: the steps after it are not to be done. */
-static void need(int status) {
+static void need_answer(int status) {
     if (status == KMIP_ANSWERED) return;
     fprintf(stderr, "%s\n", kmip_line(client));
     kmip_close(client);
@@ -41,7 +41,7 @@ static int rotate(const char *old, const char *name) {
     name_of(new_name, name, ", new");
     name_of(public_name, name, ", public");
     name_of(old_name, name, ", old");
-    need(kmip_call(client, "create-rsa", "2048", new_name, public_name, NULL));
+    need_answer(kmip_call(client, "create-rsa", "2048", new_name, public_name, NULL));
     const char *made = kmip_text(client, "private_key", NULL);
     if (!made) {
         fputs("{\"error\":\"MissingValue\",\"text\":\"the answer has no private_key\"}\n", stderr);
@@ -49,12 +49,12 @@ static int rotate(const char *old, const char *name) {
         exit(1);
     }
     name_of(new, made, "");
-    need(kmip_call(client, "activate", new, NULL));
-    need(kmip_call(client, "sign", new, "68656C6C6F", NULL));
-    need(kmip_call(client, "rename", old, old_name, NULL));
-    need(kmip_call(client, "rename", new, name, NULL));
-    need(kmip_call(client, "revoke", old, NULL));
-    need(kmip_call(client, "destroy", old, NULL));
+    need_answer(kmip_call(client, "activate", new, NULL));
+    need_answer(kmip_call(client, "sign", new, "68656C6C6F", NULL));
+    need_answer(kmip_call(client, "rename", old, old_name, NULL));
+    need_answer(kmip_call(client, "rename", new, name, NULL));
+    need_answer(kmip_call(client, "revoke", old, NULL));
+    need_answer(kmip_call(client, "destroy", old, NULL));
     return print_outcome(new);
 }
 

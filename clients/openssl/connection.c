@@ -76,13 +76,13 @@ static void at_exit(void) {
     unlock_all();
 }
 
-static void prepare(void) {
+static void prepare_process(void) {
     prepared = make_condition() && !pthread_atfork(lock_all, unlock_all, in_child) &&
                OPENSSL_atexit(at_exit);
 }
 
 bool connections_start(provider *prov) {
-    if (pthread_once(&once, prepare) || !prepared)
+    if (pthread_once(&once, prepare_process) || !prepared)
         return RAISE(prov, REASON_MEMORY, "no handlers of forks and of the end");
     lock_all();
     prov->next = all;
@@ -189,13 +189,13 @@ static bool connect_it(connection *link) {
 
 /* Makes the call, on a connection that is opened for it where none is: the client where that was
    answered. `again`: nothing of it was sent on a connection that had been open before. */
-static kmip_client *call_once(connection *link, const char *call, const char *const *words,
-                              bool *again) {
+static kmip_client *call_once(connection *link, const char *call, const kmip_word *words,
+                              size_t count, bool *again) {
     const provider *of = link->provider;
     bool old = link->client != NULL;
     *again = false;
     if (!old && !connect_it(link)) return NULL;
-    int status = kmip_call_words(link->client, call, words);
+    int status = kmip_call_array(link->client, call, words, count);
     if (status == KMIP_ANSWERED) return link->client;
     *again = status == KMIP_LOST && old && !kmip_was_sent(link->client);
     if (status == KMIP_NO_MEMORY)
@@ -207,9 +207,10 @@ static kmip_client *call_once(connection *link, const char *call, const char *co
     return NULL;
 }
 
-kmip_client *connection_call(connection *link, const char *call, const char *const *words) {
+kmip_client *connection_call(connection *link, const char *call, const kmip_word *words,
+                             size_t count) {
     if (link->client && link->process != atomic_load(&forks)) disconnect(link);
     bool again;
-    kmip_client *client = call_once(link, call, words, &again);
-    return client || !again ? client : call_once(link, call, words, &again);
+    kmip_client *client = call_once(link, call, words, count, &again);
+    return client || !again ? client : call_once(link, call, words, count, &again);
 }

@@ -24,7 +24,7 @@ static bool starts_with(const char *line, const char *start) {
     return strncmp(line, start, strlen(start)) == 0;
 }
 
-static bool read_line(const provider *prov, OSSL_CORE_BIO *in, char line[LINE]) {
+static bool next_line(const provider *prov, OSSL_CORE_BIO *in, char line[LINE]) {
     return prov->gets(in, line, LINE) > 0;
 }
 
@@ -36,7 +36,7 @@ static void read_block(const provider *prov, OSSL_CORE_BIO *in, char into[MOST])
     size_t count = 0;
     bool ours = false;
     *into = 0;
-    while (read_line(prov, in, line) && !starts_with(line, ends)) {
+    while (next_line(prov, in, line) && !starts_with(line, ends)) {
         size_t length = strlen(line);
         if (starts_with(line, begins))
             ours = true;

@@ -23,7 +23,7 @@ typedef struct {
     char *linked; /* the identifier of the public key that a private key is linked to, or null */
 } about;
 
-static char *copy(const provider *prov, const char *text) {
+static char *copy_of(const provider *prov, const char *text) {
     char *made = OPENSSL_strdup(text);
     if (!made) RAISE(prov, REASON_MEMORY, "a text");
     return made;
@@ -47,9 +47,10 @@ static void take_attribute(kmip_client *client, int index, about *into) {
 }
 
 static bool ask_about(connection *by, const char *id, about *into) {
-    const char *words[] = {id, "Object Type", "Cryptographic Algorithm", "Link", NULL};
+    const kmip_word words[] = {kmip_text_word(id), kmip_text_word("Object Type"),
+                               kmip_text_word("Cryptographic Algorithm"), kmip_text_word("Link")};
     memset(into, 0, sizeof *into);
-    kmip_client *client = connection_call(by, "attributes", words);
+    kmip_client *client = connection_call(by, "attributes", words, 4);
     for (int i = 0; client && attribute(client, i, "name"); i++)
         take_attribute(client, i, into);
     return client != NULL;
@@ -67,10 +68,10 @@ static int locate(const provider *prov, connection *by, const char *name, const 
         BIO_snprintf(by_type, sizeof by_type, "type=%s", type) < 0) {
         RAISE(prov, REASON_MEMORY, "a name");
     } else {
-        const char *words[] = {by_name, by_type, NULL};
-        kmip_client *client = connection_call(by, "locate", words);
+        const kmip_word words[] = {kmip_text_word(by_name), kmip_text_word(by_type)};
+        kmip_client *client = connection_call(by, "locate", words, 2);
         const char *first = client ? kmip_text(client, "unique_identifiers.0", NULL) : NULL;
-        if (first) *id = copy(prov, first);
+        if (first) *id = copy_of(prov, first);
         if (client && (!first || *id))
             count = !first ? 0 : kmip_text(client, "unique_identifiers.1", NULL) ? 2 : 1;
     }
@@ -119,12 +120,12 @@ static const char *words_for(int wanted) {
 
 /* The identifier of the object that a URI means. */
 static char *object_id(const provider *prov, connection *by, const uri *from, int wanted) {
-    if (from->id) return copy(prov, from->id);
+    if (from->id) return copy_of(prov, from->id);
     const char *name = from->name ? from->name : from->any;
     bool good;
     char *id = locate_wanted(prov, by, name, wanted, &good);
     if (id || !good) return id;
-    if (from->any) return copy(prov, from->any);
+    if (from->any) return copy_of(prov, from->any);
     RAISE(prov, REASON_NOT_FOUND, "no %s has the name %s", words_for(wanted), name);
     return NULL;
 }
@@ -168,9 +169,9 @@ static EVP_PKEY *key_of_file(const provider *prov, const char *path) {
 }
 
 /* The object as PEM, of a type that it is known to have and that is not private. */
-static BIO *get(const provider *prov, connection *by, const char *id, const char *type) {
-    const char *words[] = {id, NULL};
-    kmip_client *client = connection_call(by, "get", words);
+static BIO *get_pem(const provider *prov, connection *by, const char *id, const char *type) {
+    const kmip_word word = kmip_text_word(id);
+    kmip_client *client = connection_call(by, "get", &word, 1);
     if (!client) return NULL;
     const char *got = kmip_text(client, "object_type", NULL);
     bool good = got && strcmp(got, type) == 0;
@@ -188,7 +189,7 @@ static BIO *get(const provider *prov, connection *by, const char *id, const char
 }
 
 static EVP_PKEY *get_public(const provider *prov, connection *by, const char *id) {
-    BIO *pem = get(prov, by, id, PUBLIC);
+    BIO *pem = get_pem(prov, by, id, PUBLIC);
     if (!pem) return NULL;
     ERR_set_mark();
     EVP_PKEY *key = key_of_pem(prov, pem);
@@ -252,14 +253,14 @@ static bool take_private(provider *prov, connection *by, const uri *from, const 
         return false;
     }
     into->key->public = public;
-    into->key->id = copy(prov, id);
+    into->key->id = copy_of(prov, id);
     return into->key->id != NULL;
 }
 
 static bool take_certificate(const provider *prov, connection *by, const char *id, object *into) {
     char *name = NULL, *header = NULL;
     long length = 0;
-    BIO *pem = get(prov, by, id, CERTIFICATE);
+    BIO *pem = get_pem(prov, by, id, CERTIFICATE);
     if (!pem) return false;
     bool read = PEM_read_bio(pem, &name, &header, &into->certificate, &length) == 1;
     into->length = read ? (size_t)length : 0;
@@ -269,8 +270,8 @@ static bool take_certificate(const provider *prov, connection *by, const char *i
     return read || RAISE(prov, REASON_KEY, "the object %s is no X.509 certificate", id);
 }
 
-static bool take(provider *prov, connection *by, const uri *from, const char *id, int wanted,
-                 object *into) {
+static bool take_object(provider *prov, connection *by, const uri *from, const char *id, int wanted,
+                        object *into) {
     about what;
     bool done = false;
     if (!ask_about(by, id, &what)) {
@@ -295,7 +296,7 @@ bool find(provider *prov, const uri *from, int wanted, object *into) {
     connection *by = connection_take(prov);
     if (!by) return false;
     char *id = object_id(prov, by, from, wanted);
-    bool done = id && take(prov, by, from, id, wanted, into);
+    bool done = id && take_object(prov, by, from, id, wanted, into);
     connection_give_back(by);
     OPENSSL_free(id);
     if (!done) object_free(into);

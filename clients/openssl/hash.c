@@ -27,7 +27,7 @@ typedef struct {
     size_t at;
 } writer;
 
-static void put(writer *out, const uint8_t *bytes, size_t count) {
+static void prepend(writer *out, const uint8_t *bytes, size_t count) {
     out->at -= count;
     memcpy(out->bytes + out->at, bytes, count);
 }
@@ -35,24 +35,24 @@ static void put(writer *out, const uint8_t *bytes, size_t count) {
 /* Puts the head before what was put since then. */
 static void wrap(writer *out, uint8_t tag, size_t since) {
     uint8_t head[] = {tag, (uint8_t)(since - out->at)};
-    put(out, head, sizeof head);
+    prepend(out, head, sizeof head);
 }
 
 static void put_null(writer *out) {
     static const uint8_t null[] = {0x05, 0x00};
-    put(out, null, sizeof null);
+    prepend(out, null, sizeof null);
 }
 
 static void put_pkcs1_oid(writer *out, uint8_t end) {
     uint8_t oid[] = {0x06, 0x09, 0x2A, 0x86, 0x48, 0x86, 0xF7, 0x0D, 0x01, 0x01, end};
-    put(out, oid, sizeof oid);
+    prepend(out, oid, sizeof oid);
 }
 
 static void put_hash(writer *out, const hash *what) {
     uint8_t oid[] = {0x06, 0x09, 0x60, 0x86, 0x48, 0x01, 0x65, 0x03, 0x04, 0x02, what->oid_end};
     size_t since = out->at;
     put_null(out);
-    put(out, oid, sizeof oid);
+    prepend(out, oid, sizeof oid);
     wrap(out, 0x30, since);
 }
 
@@ -62,7 +62,7 @@ static void put_salt(writer *out, int salt) {
     size_t since = out->at;
     bool two = salt > 127;
     if (salt == 20) return;
-    put(out, bytes + !two, two ? 2 : 1);
+    prepend(out, bytes + !two, two ? 2 : 1);
     wrap(out, 0x02, since);
     wrap(out, 0xA2, since);
 }

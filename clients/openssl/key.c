@@ -28,21 +28,11 @@ void key_free(private_key *key) {
     OPENSSL_free(key);
 }
 
-static char *hex_of(const uint8_t *data, size_t count) {
-    char *hex = count < SIZE_MAX / 2 ? OPENSSL_malloc(2 * count + 1) : NULL;
-    for (size_t i = 0; hex && i < count; i++) {
-        hex[2 * i] = "0123456789ABCDEF"[data[i] >> 4];
-        hex[2 * i + 1] = "0123456789ABCDEF"[data[i] & 15];
-    }
-    if (hex) hex[2 * count] = 0;
-    return hex;
-}
-
-static bool ask_to_sign(provider *prov, const char *const *words, uint8_t *into, size_t room,
+static bool ask_to_sign(provider *prov, const kmip_word words[4], uint8_t *into, size_t room,
                         size_t *length) {
     connection *by = connection_take(prov);
     if (!by) return false;
-    kmip_client *client = connection_call(by, "sign", words);
+    kmip_client *client = connection_call(by, "sign", words, 4);
     const uint8_t *made = client ? kmip_bytes(client, "signature_data", length) : NULL;
     bool fits = made && *length <= room;
     if (fits) memcpy(into, made, *length);
@@ -52,12 +42,10 @@ static bool ask_to_sign(provider *prov, const char *const *words, uint8_t *into,
 
 bool key_sign(const private_key *key, const char *by, const char *padding, const uint8_t *data,
               size_t count, uint8_t *into, size_t room, size_t *length) {
-    char by_hash[30], by_padding[30], *hex = hex_of(data, count);
-    if (!hex) return RAISE(key->provider, REASON_MEMORY, "%zu bytes to sign", count);
+    char by_hash[30], by_padding[30];
     bool fits = BIO_snprintf(by_hash, sizeof by_hash, "hash=%s", by) > 0 &&
                 BIO_snprintf(by_padding, sizeof by_padding, "padding=%s", padding) > 0;
-    const char *words[] = {key->id, hex, by_hash, by_padding, NULL};
-    bool made = fits && ask_to_sign(key->provider, words, into, room, length);
-    OPENSSL_clear_free(hex, 2 * count + 1);
-    return made;
+    const kmip_word words[] = {kmip_text_word(key->id), kmip_data_word(data, count),
+                               kmip_text_word(by_hash), kmip_text_word(by_padding)};
+    return fits && ask_to_sign(key->provider, words, into, room, length);
 }

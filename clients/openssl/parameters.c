@@ -137,7 +137,7 @@ bool signature_salt_can_be(const signature *ctx) {
         signature_salt(ctx), made_salt(ctx));
 }
 
-static int put_identifier(const signature *ctx, OSSL_PARAM *into) {
+static int give_identifier(const signature *ctx, OSSL_PARAM *into) {
     uint8_t bytes[128];
     if (!ctx->hash || !ctx->key || !signature_salt_can_be(ctx)) return 0;
     bool pss = ctx->padding == RSA_PKCS1_PSS_PADDING;
@@ -145,18 +145,18 @@ static int put_identifier(const signature *ctx, OSSL_PARAM *into) {
     return count && OSSL_PARAM_set_octet_string(into, bytes, count);
 }
 
-static int put_named(OSSL_PARAM *into, int number, const char *name) {
+static int give_named(OSSL_PARAM *into, int number, const char *name) {
     if (into->data_type == OSSL_PARAM_INTEGER) return OSSL_PARAM_set_int(into, number);
     return OSSL_PARAM_set_utf8_string(into, name);
 }
 
-static int put_salt(const signature *ctx, OSSL_PARAM *into) {
+static int give_salt(const signature *ctx, OSSL_PARAM *into) {
     char digits[12];
     if (BIO_snprintf(digits, sizeof digits, "%d", ctx->salt) < 0) return 0;
     const char *name = digits;
     for (size_t i = 0; i < SALTS; i++)
         if (salts[i].salt == ctx->salt) name = salts[i].name;
-    return put_named(into, ctx->salt, name);
+    return give_named(into, ctx->salt, name);
 }
 
 int signature_get(void *given, OSSL_PARAM params[]) {
@@ -170,10 +170,10 @@ int signature_get(void *given, OSSL_PARAM params[]) {
     const char *name = ctx->hash ? ctx->hash->name : "";
     const char *mode = ctx->padding == RSA_PKCS1_PADDING ? OSSL_PKEY_RSA_PAD_MODE_PKCSV15
                                                          : OSSL_PKEY_RSA_PAD_MODE_PSS;
-    return (!identifier || put_identifier(ctx, identifier)) &&
-           (!padding || put_named(padding, ctx->padding, mode)) &&
+    return (!identifier || give_identifier(ctx, identifier)) &&
+           (!padding || give_named(padding, ctx->padding, mode)) &&
            (!by_hash || OSSL_PARAM_set_utf8_string(by_hash, name)) &&
-           (!mask || OSSL_PARAM_set_utf8_string(mask, name)) && (!salt || put_salt(ctx, salt));
+           (!mask || OSSL_PARAM_set_utf8_string(mask, name)) && (!salt || give_salt(ctx, salt));
 }
 
 const OSSL_PARAM *signature_gettable(void *given, void *context) {

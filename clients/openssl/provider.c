@@ -56,7 +56,7 @@ static const OSSL_PARAM *gettable(void *given) {
     return known;
 }
 
-static int put_text(OSSL_PARAM params[], const char *name, const char *text) {
+static int set_text(OSSL_PARAM params[], const char *name, const char *text) {
     OSSL_PARAM *at = OSSL_PARAM_locate(params, name);
     return !at || OSSL_PARAM_set_utf8_ptr(at, text);
 }
@@ -64,9 +64,9 @@ static int put_text(OSSL_PARAM params[], const char *name, const char *text) {
 static int get(void *given, OSSL_PARAM params[]) {
     OSSL_PARAM *status = OSSL_PARAM_locate(params, OSSL_PROV_PARAM_STATUS);
     (void)given;
-    return put_text(params, OSSL_PROV_PARAM_NAME, "RSA keys of a KMIP server (metsuwan)") &&
-           put_text(params, OSSL_PROV_PARAM_VERSION, METSUWAN_VERSION) &&
-           put_text(params, OSSL_PROV_PARAM_BUILDINFO, kmip_version()) &&
+    return set_text(params, OSSL_PROV_PARAM_NAME, "RSA keys of a KMIP server (metsuwan)") &&
+           set_text(params, OSSL_PROV_PARAM_VERSION, METSUWAN_VERSION) &&
+           set_text(params, OSSL_PROV_PARAM_BUILDINFO, kmip_version()) &&
            (!status || OSSL_PARAM_set_int(status, 1));
 }
 

@@ -75,9 +75,10 @@ void connections_end(provider *prov);
 connection *connection_take(provider *prov);
 void connection_give_back(connection *link);
 
-/* A call of kmip_call_words: the client whose answer it is, until the next call, or null with an
+/* A call of kmip_call_array: the client whose answer it is, until the next call, or null with an
    error raised. A connection that was lost before the request was sent is opened again, once. */
-kmip_client *connection_call(connection *link, const char *call, const char *const *words);
+kmip_client *connection_call(connection *link, const char *call, const kmip_word *words,
+                             size_t count);
 
 /* uri.c: kmip:NAME-OR-ID, or kmip: and name=value with a semicolon between two. */
 typedef struct {

@@ -28,7 +28,7 @@ static const char *setting(const provider *prov, const char *name) {
     return given && *given ? given : NULL;
 }
 
-static bool copy(const provider *prov, const char *name, char **into) {
+static bool copy_setting(const provider *prov, const char *name, char **into) {
     const char *value = setting(prov, name);
     if (!value) return true;
     *into = OPENSSL_strdup(value);
@@ -75,8 +75,8 @@ static bool read_line(const provider *prov, const char *path, char **into) {
 
 static bool read_credential(provider *prov) {
     const char *file = setting(prov, "password_file");
-    if (!copy(prov, "user", &prov->settings.user) ||
-        !copy(prov, "password", &prov->settings.password))
+    if (!copy_setting(prov, "user", &prov->settings.user) ||
+        !copy_setting(prov, "password", &prov->settings.password))
         return false;
     if (file && prov->settings.password)
         return RAISE(prov, REASON_SETTINGS, "password and password_file exclude each other");
@@ -115,9 +115,10 @@ static bool read_salt(provider *prov) {
 
 bool settings_read(provider *prov) {
     settings *set = &prov->settings;
-    return read_server(prov) && copy(prov, "certificate", &set->certificate) &&
-           copy(prov, "key", &set->key) && copy(prov, "authority", &set->authority) &&
-           copy(prov, "passphrase", &set->passphrase) && read_credential(prov) &&
+    return read_server(prov) && copy_setting(prov, "certificate", &set->certificate) &&
+           copy_setting(prov, "key", &set->key) &&
+           copy_setting(prov, "authority", &set->authority) &&
+           copy_setting(prov, "passphrase", &set->passphrase) && read_credential(prov) &&
            read_numbers(prov) && read_salt(prov);
 }
 

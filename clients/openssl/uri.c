@@ -26,7 +26,7 @@ static char *decoded(const char *from, size_t count) {
     return into;
 }
 
-static char **place_of(uri *parts, const char *name, size_t count) {
+static char **field_of(uri *parts, const char *name, size_t count) {
     const struct {
         const char *name;
         char **at;
@@ -41,9 +41,9 @@ static char **place_of(uri *parts, const char *name, size_t count) {
     return NULL;
 }
 
-static bool read_part(uri *parts, const char *part, size_t count, bool first) {
+static bool take_part(uri *parts, const char *part, size_t count, bool first) {
     const char *equals = memchr(part, '=', count);
-    char **at = equals  ? place_of(parts, part, (size_t)(equals - part))
+    char **at = equals  ? field_of(parts, part, (size_t)(equals - part))
                 : first ? &parts->any
                         : NULL;
     size_t skipped = equals ? (size_t)(equals - part) + 1 : 0;
@@ -63,7 +63,7 @@ static bool is_whole(const uri *parts) {
 static bool read_parts(uri *parts, const char *text) {
     for (bool first = true;; first = false) {
         size_t count = strcspn(text, ";");
-        if (!read_part(parts, text, count, first)) return false;
+        if (!take_part(parts, text, count, first)) return false;
         if (!text[count]) return is_whole(parts);
         text += count + 1;
     }

@@ -3,9 +3,10 @@
 
     call.py HOST PORT CERTIFICATE KEY AUTHORITY CALL TEXT..
 
-Beside the calls of the grammar there are `pem IDENTIFIER`, and what registers the contents of a
-file: `register-private FILE`, `register-public FILE`, `register-certificate FILE` and
-`register-secret FILE`, each with `usage=..` and `name=..`; a secret also with `kind=Seed`.
+Beside the calls of the library, as `sign ID HEX hash=SHA384` and `encrypt ID HEX mode=CBC`, there
+are `pem IDENTIFIER`, with the options of `get`, and what registers the contents of a file:
+`register-private FILE`, `register-public FILE`, `register-certificate FILE` and `register-secret
+FILE`, each with `usage=..` and `name=..`; a secret also with `kind=Seed`.
 
 The environment may have KMIP_USER and KMIP_PASSWORD, a credential; KMIP_PASSPHRASE, that of an
 encrypted key; KMIP_LIMIT, the most bytes of a response (1048576 where it is not set; 0: no limit);
@@ -23,6 +24,7 @@ from typing import Callable, Dict, List
 
 from metsuwan import Client, GrammarError, KmipError
 from metsuwan.calls import words_of
+from metsuwan.library import Library
 from output import NotWritten, are_closed, fail, write
 
 
@@ -67,17 +69,22 @@ def registered(settings: List[str], name: str, texts: List[str]) -> str:
         return json.dumps({'answer': {'unique_identifier': made}}) + '\n'
 
 
+def check(*words: str) -> None:
+    """Nothing, where these are a call: for what is none there is no connection."""
+    why = Library().refusal(words_of(words))
+    if why is not None:
+        raise GrammarError(why)
+
+
 def answer_of(settings: List[str], name: str, texts: List[str]) -> str:
     if name in REGISTERS:
         return registered(settings, name, texts)
-    if name == 'pem':
-        with client_of(settings) as kmip:
-            return kmip.get(*map(str, words_of('get', texts)[0])).pem()
-    words, options = words_of(name, texts)
+    check('get' if name == 'pem' else name, *texts)
     with client_of(settings) as kmip:
-        if name == 'get' and os.environ.get('KMIP_PEM'):
-            return kmip.get(texts[0]).pem()
-        return json.dumps({'answer': kmip.call(name, *words, **options)}) + '\n'
+        if name == 'pem' or (name == 'get' and os.environ.get('KMIP_PEM')):
+            options = dict(option.partition('=')[::2] for option in texts[1:])
+            return kmip.get(texts[0], **options).pem()
+        return json.dumps({'answer': kmip.call_texts(name, *texts)}) + '\n'
 
 
 def main() -> int:

@@ -5,7 +5,7 @@ library that is as new as the library wants it.
     LIBMETSUWAN=FOLDER/libmetsuwan.so python3 -m build clients/python
 
 FOLDER is one that clients/build.sh made. Where its library is not known to be proved, the version
-of the wheel says so, as 1.0+not.proved.
+of the wheel says so, as 2.0+not.proved.
 """
 import ctypes
 import os
@@ -39,14 +39,20 @@ def library() -> str:
 
 
 def version() -> str:
-    """The version, with what the library says of itself where that is not that it is proved."""
+    """The version, with what the library says of itself where that is not that it is proved.
+
+    :raises SetupError: the library is another one, or of another version than the package
+    """
     if not library():
         return VERSION
     call = getattr(ctypes.CDLL(library()), 'kmip_version', None)
-    note = 'proof unknown'
-    if call is not None:
-        call.restype = ctypes.c_char_p
-        note = call().decode().partition(', ')[2]
+    if call is None:
+        raise SetupError('%s is not libmetsuwan' % library())
+    call.restype = ctypes.c_char_p
+    number, _, note = call().decode().partition(', ')
+    if number.partition('.')[0] != VERSION.partition('.')[0]:
+        raise SetupError('%s is libmetsuwan %s, and this package is %s'
+                         % (library(), number, VERSION))
     if note == 'proved':
         return VERSION
     print('metsuwan: the library in this wheel: %s' % note, file=sys.stderr)

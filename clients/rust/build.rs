@@ -1,4 +1,5 @@
 //! Links libmetsuwan.a, which clients/build.sh makes.
+use std::fs;
 use std::path::{Path, PathBuf};
 
 /// Where `clients/install.sh` and the Debian package leave it.
@@ -10,7 +11,7 @@ fn main() {
     if std::env::var_os("DOCS_RS").is_some() {
         return;
     }
-    match folder() {
+    match folder().and_then(of_version) {
         Ok(folder) => {
             println!("cargo:rerun-if-changed={}/libmetsuwan.a", folder.display());
             println!("cargo:rustc-link-search=native={}", folder.display());
@@ -45,4 +46,20 @@ fn folder() -> Result<PathBuf, String> {
          clients/build.sh makes: {} is no such file",
         library.display()
     ))
+}
+
+/// The folder, where its library has the version of the crate: the calls of another one take other
+/// arguments.
+fn of_version(folder: PathBuf) -> Result<PathBuf, String> {
+    let major = concat!(env!("CARGO_PKG_VERSION_MAJOR"), ".");
+    let path = folder.join("libmetsuwan.a");
+    let library = fs::read(&path).map_err(|error| format!("{}: {error}", path.display()))?;
+    let library = String::from_utf8_lossy(&library);
+    // What `kmip_version` may return: "2.0, not proved".
+    let is_it = library.match_indices(", not proved").any(|(at, _)| {
+        library[..at].trim_end_matches(|digit: char| digit.is_ascii_digit()).ends_with(major)
+    });
+    is_it.then_some(folder).ok_or_else(|| {
+        format!("{} is not of version {major}x, which the crate is for", path.display())
+    })
 }

@@ -52,8 +52,12 @@ _kmip_operations=(Create CreateKeyPair Register Rekey DeriveKey Certify Recertif
     GetAttributeList AddAttribute ModifyAttribute DeleteAttribute ObtainLease GetUsageAllocation Activate Revoke Destroy
     Archive Recover Validate Query Cancel Poll Notify Put RekeyKeyPair DiscoverVersions Encrypt Decrypt Sign SignatureVerify
     MAC MACVerify RNGRetrieve RNGSeed Hash CreateSplitKey JoinSplitKey)
-_kmip_fields=(attributes cryptographic_object object_type object_types operations private_key public_key random_bytes
-    signature_data supported_versions unique_identifier unique_identifiers vendor_identification)
+# What `kmip_call --operations` lists.
+_kmip_table=(encrypt decrypt mac mac-verify verify hash derive-key rekey rekey-pair certify recertify create-ec create-pair
+    create-key check attribute-list lease usage-allocation archive recover validate cancel poll rng-seed)
+_kmip_fields=(attributes cryptographic_object data iv_counter_nonce mac_data object_type object_types operations private_key
+    public_key random_bytes signature_data supported_versions unique_identifier unique_identifiers validity_indicator
+    vendor_identification)
 
 # Leaves in COMPREPLY those of the words that begin as what was typed does.
 _kmip_offer() { # TYPED WORD..
@@ -145,7 +149,7 @@ _kmip_call() {
     record=*) _kmip_offer_files "${typed#record=}" ;;
     *=*) COMPREPLY=() ;;
     -*) _kmip_offer "$typed" --help --version --grammar --operations ;;
-    *) _kmip_offer "$typed" "${_kmip_calls[@]}" "${options[@]}" ;;
+    *) _kmip_offer "$typed" "${_kmip_calls[@]}" "${_kmip_table[@]}" "${options[@]}" ;;
     esac
     if [[ ${COMPREPLY[0]-} == *= ]]; then compopt -o nospace 2>/dev/null || :; fi
 }
@@ -155,7 +159,7 @@ _kmip() {
     local words
     _kmip_split
     if ((${#words[@]} == 2)); then
-        _kmip_offer "${words[1]}" "${_kmip_calls[@]}" pem
+        _kmip_offer "${words[1]}" "${_kmip_calls[@]}" "${_kmip_table[@]}" pem
     elif [[ ${words[1]-} == @(operation|message) && ${words[-1]} == @* ]]; then
         _kmip_offer_files "${words[-1]#@}"
     else
@@ -168,7 +172,7 @@ _kmip_field() {
     COMPREPLY=()
     case $COMP_CWORD in
     1) _kmip_offer "${COMP_WORDS[1]}" "${_kmip_fields[@]}" ;;
-    2) _kmip_offer "${COMP_WORDS[2]}" "${_kmip_calls[@]}" ;;
+    2) _kmip_offer "${COMP_WORDS[2]}" "${_kmip_calls[@]}" "${_kmip_table[@]}" ;;
     esac
 }
 

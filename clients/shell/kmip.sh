@@ -31,7 +31,7 @@
 # request has eight random bytes as its Unique Batch Item ID, and an answer with another one or with none is that of another
 # call (status 3); `item-id=0102`, also before the payload, is another one.
 # `kmip encrypt ID HEX mode=CBC padding=PKCS5 iv=..` and the other calls that `kmip_call --operations` lists are such operations by
-# words; the answer is the payload as a tree.
+# words; the answer is plain JSON, as {"answer":{"unique_identifier":"8","data":"6868"}}: `kmip_field data encrypt ..` is the data.
 # `kmip message @message.json` sends a whole message as it stands, and answers the whole response. In the place of hex
 # `@data.bin` is a file that has the bytes; `@3` is descriptor 3, up to its end. Payloads, messages and the keys of `register`
 # are in no word of a process.
@@ -265,6 +265,8 @@ kmip_words() { # CALL WORD..
     raw | hash | rng-seed) kmip_bytes_word 1 "$@" ;;
     sign | register | encrypt | decrypt | mac | mac-verify | verify) kmip_bytes_word 2 "$@" ;;
     esac
+    # (the code and the signature that are verified are no secret)
+    if [[ $1 == mac-verify || $1 == verify ]] && [[ ${4-} == @* ]]; then KMIP_WORDS[3]=$4; fi
     if $is_of_table; then
         kmip_new_id
         KMIP_WORDS=("$KMIP_ID" "${KMIP_WORDS[@]}")

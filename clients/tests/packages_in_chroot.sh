@@ -43,7 +43,8 @@ lacking() {
     done
     [[ -e /usr/include/openssl/ssl.h ]] || echo 'there is no libssl-dev'
     [[ -f $built/libmetsuwan.a ]] || echo "there is no $built/libmetsuwan.a: clients/build.sh makes it"
-    if [[ -z $system ]] && ! type -P mmdebstrap debootstrap >/dev/null; then
+    # (the status of `type` is 1 where one of the two is missing)
+    if [[ -z $system && -z $(type -P mmdebstrap debootstrap) ]]; then
         echo 'there is no debootstrap (Debian: apt-get install debootstrap, or mmdebstrap)'
     fi
 }

@@ -40,10 +40,10 @@ static Block *fresh(size_t size) {
     return block;
 }
 
-static int class_of(size_t size) {
-    int it = 5;
-    while (((size_t)1 << it) < size) it++;
-    return it;
+static int power_of(size_t size) {
+    int power = 5;
+    while (((size_t)1 << power) < size) power++;
+    return power;
 }
 
 static void *get(size_t bytes) {
@@ -51,9 +51,9 @@ static void *get(size_t bytes) {
     size_t size = (bytes + 31) & ~15ul;
     Block *block;
     if (size <= 1ul << SMALL) {
-        int it = class_of(size);
-        block = small[it];
-        if (block) small[it] = block->next; else block = fresh((size_t)1 << it);
+        int power = power_of(size);
+        block = small[power];
+        if (block) small[power] = block->next; else block = fresh((size_t)1 << power);
     } else {
         Block **at = &large;
         while (*at && ((*at)->size < size || (*at)->size > 2 * size)) at = &(*at)->next;
@@ -63,11 +63,11 @@ static void *get(size_t bytes) {
     return block ? block + 1 : 0;
 }
 
-static void put(void *it) {
-    if (!it) return;
-    Block *block = (Block *)it - 1;
+static void put(void *place) {
+    if (!place) return;
+    Block *block = (Block *)place - 1;
     if (block->size <= 1ul << SMALL) {
-        Block **list = &small[class_of(block->size)];
+        Block **list = &small[power_of(block->size)];
         block->next = *list;
         *list = block;
     } else if ((unsigned char *)block + block->size == top) {
@@ -79,34 +79,34 @@ static void put(void *it) {
 }
 
 Tried rattle_alloc(size_t size, size_t align) {
-    void *it = get(size);
+    void *place = get(size);
     (void)align;
-    return (Tried){ it != 0, it };
+    return (Tried){ place != 0, place };
 }
 
-Tried rattle_realloc(void *it, size_t kept, size_t size, size_t align) {
-    Block *block = (Block *)it - 1;
+Tried rattle_realloc(void *place, size_t kept, size_t size, size_t align) {
+    Block *block = (Block *)place - 1;
     (void)align;
-    if (size > LIMIT) return (Tried){ 0, it };
-    if (size + 16 <= block->size) return (Tried){ 1, it };
+    if (size > LIMIT) return (Tried){ 0, place };
+    if (size + 16 <= block->size) return (Tried){ 1, place };
     size_t more = ((size + 31) & ~15ul) - block->size;
     if (block->size > 1ul << SMALL && (unsigned char *)block + block->size == top && room(more)) {
         block->size += more;
         top += more;
-        return (Tried){ 1, it };
+        return (Tried){ 1, place };
     }
     void *moved = get(size);
-    if (!moved) return (Tried){ 0, it };
-    __builtin_memcpy(moved, it, kept < size ? kept : size);
-    put(it);
+    if (!moved) return (Tried){ 0, place };
+    __builtin_memcpy(moved, place, kept < size ? kept : size);
+    put(place);
     return (Tried){ 1, moved };
 }
 
-void rattle_dealloc(void *it) { put(it); }
+void rattle_dealloc(void *place) { put(place); }
 
 // For the page: a block for the bytes that it hands in or takes out, and all blocks given up at once.
 void *web_alloc(size_t size) { return get(size); }
-void web_free(void *it) { put(it); }
+void web_free(void *place) { put(place); }
 void web_reset(void) {
     for (int i = 0; i < 16; i++) small[i] = 0;
     large = 0;

@@ -33,7 +33,7 @@ from registry import (ADD_ATTRIBUTE, CREATE_KEY_PAIR, DELETE_ATTRIBUTE, FAKES, G
 from ttlv import (FAILED, PENDING, SUCCESS, UNDONE, batch_item, date, enumeration, header, id_of, identified, identifier, item,
                   items_of, nested, octets, operation_of, response, structure, text, value_of)
 
-for name in 'objects', 'curves':      # fakes of their own
+for name in 'objects', 'curves', 'ciphers':      # fakes of their own
     importlib.import_module(name)
 
 # The server's certificate is that of certs.sh with this name; what it answers is good.
@@ -164,13 +164,14 @@ class Kept:
 
 
 def batch_answer(body):
-    """What `good` answers to a batch item, or `transparent` to get, with its Unique Batch Item ID, but for `unnamed`;
-    about `failing` that it is not found, about `other operation` as that of Destroy."""
+    """What `good` answers to a batch item, `transparent` to get, or `ciphers` about `aes` and `secret`, with its Unique Batch
+    Item ID, but for `unnamed`; about `failing` that it is not found, about `other operation` as that of Destroy."""
     asked, operation = value_of(body, '420094', 7), operation_of(body)
     name = b'' if asked == b'unnamed' else octets(0x420093, value_of(body, '420093', 8) or b'')
     if asked == b'failing':
         return structure(0x42000F, enumeration(0x42005C, operation), name, enumeration(0x42007F, FAILED), enumeration(0x42007E, 1))
-    answer = Kept(FAKES['transparent'], body).sent if operation == GET else answer_of(body)
+    other = 'transparent' if operation == GET else 'ciphers' if asked in (b'aes', b'secret') else 'good'
+    answer = Kept(FAKES[other], body).sent
     one = items_of(answer)[0]
     if asked == b'other operation':
         one = enumeration(0x42005C, 0x14) + one[16:]
@@ -179,10 +180,10 @@ def batch_answer(body):
 
 @own_ids
 def batches(wire, request):
-    """answers each item of a batch as `good` does, and get as `transparent`, the last one first; about `failing` it fails, and
-    where the batch ends at a failure, those after it are not answered; with the item `unknown` comes one that was not asked
-    for, `twice` is answered twice, `left out` is not, the answer about `unnamed` does not say of which item it is, and that
-    about `other operation` is to Destroy"""
+    """answers each item of a batch as `good` does, get as `transparent`, and what is asked about `aes` and `secret` as
+    `ciphers`, the last one first; about `failing` it fails, and where the batch ends at a failure, those after it are not
+    answered; with the item `unknown` comes one that was not asked for, `twice` is answered twice, `left out` is not, the answer
+    about `unnamed` does not say of which item it is, and that about `other operation` is to Destroy"""
     made = []
     for body in items_of(request):
         asked = value_of(body, '420094', 7)

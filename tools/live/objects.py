@@ -84,7 +84,8 @@ def parts_of(name):
 @fake
 def transparent(wire, request):
     """answers get with the parts of a key: `PublicKey.RSA`, `PrivateKey.RSA`, `PublicKey.EC`, `PrivateKey.EC`; `HMAC` is
-    an HMAC key, `elsewhere` a key on a curve about which it says another identifier; attributes with one that is in no table"""
+    an HMAC key, `elsewhere` a key on a curve about which it says another identifier, as long; attributes with one that is in no
+    table"""
     asked = (value_of(request, '420094', 7) or b'').decode()
     if operation_of(request) == GET_ATTRIBUTES:
         unknown = structure(0x420008, text(0x42000A, 'x-of ours'), enumeration(0x42000B, 9))
@@ -100,4 +101,4 @@ def transparent(wire, request):
     block = structure(0x420040, enumeration(0x420042, form), structure(0x420045, material),
                       enumeration(0x420028, algorithm), integer(0x42002A, 256))
     return wire.sendall(response(GET, [enumeration(0x420057, number),
-                                       identifier('other' if asked == 'elsewhere' else asked), structure(tag, block)]))
+                                       identifier('otherwise' if asked == 'elsewhere' else asked), structure(tag, block)]))

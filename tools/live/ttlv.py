@@ -121,12 +121,12 @@ def identified(message, name):
 
 def message_of(wire):
     """One message that came, or no bytes at the end."""
-    got, wanted = b'', 8
+    got, wanted = bytearray(), 8
     while len(got) < wanted:
-        piece = wire.recv(wanted - len(got))
+        piece = wire.recv(min(wanted - len(got), 1 << 16))
         if not piece:
             return b''
         got += piece
         if len(got) == 8:
             wanted = item_at(got)[3]
-    return got
+    return bytes(got)

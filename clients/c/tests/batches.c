@@ -45,6 +45,21 @@ static void add_calls(kmip_batch *batch) {
     check(added && kmip_batch_count(batch) == 5, "calls are added");
 }
 
+/* A value may be a word of the next call, also where that is answered as a tree: it is the object that
+   the answer has to be about. */
+static void about_values(kmip_client *client) {
+    check(kmip_call(client, "get", "PublicKey.EC", NULL) == KMIP_ANSWERED &&
+              kmip_call(client, "get", kmip_text(client, "UniqueIdentifier", NULL), NULL) ==
+                  KMIP_ANSWERED &&
+              kmip_pem(client),
+          "a value of a tree is a word of the next call");
+    check(kmip_call(client, "attributes", "elsewhere", NULL) == KMIP_ANSWERED &&
+              kmip_call(client, "get", kmip_text(client, "unique_identifier", NULL), NULL) ==
+                  KMIP_LOST &&
+              kmip_error_kind(client) == KMIP_KIND_OTHER_ANSWER,
+          "and an answer about another object is lost");
+}
+
 /* Each answer is that of the single call, whatever their order in the response. */
 static void answers(kmip_client *client, const kmip_settings *good, const kmip_settings *keys) {
     kmip_client *single = opened(good), *of_keys = opened(keys);
@@ -74,6 +89,7 @@ static void answers(kmip_client *client, const kmip_settings *good, const kmip_s
     is_same(client, batch, 3, single, KMIP_ANSWERED, "any answer may be read again");
     kmip_batch_free(batch);
     kmip_close(single);
+    about_values(of_keys);
     kmip_close(of_keys);
 }
 

@@ -109,19 +109,20 @@ static void refused(kmip_client *client) {
         const char *call, *words[6], *text;
     } rows[] = {
         {"destroy", {"", NULL}, "an identifier is empty; "},
-        {"sign -", {"00", NULL}, "the name of a call is one word, and this is none: sign -"},
-        {"query\nquery",
-         {NULL},
-         "the name of a call is one word, and this is none: query\\u000Aquery"},
-        {"", {NULL}, "the name of a call is one word, and this is none: "},
+        {"sign -", {"00", NULL}, "there is no call sign -"},
+        {"query\nquery", {NULL}, "there is no call query\\u000Aquery"},
+        {"", {NULL}, "there is no call "},
+        {"operation", {"Query", "{}", NULL}, "the words are not those of operation "},
         {"sing", {"1", NULL}, "there is no call sing"},
         {"rename", {"1", NULL}, "the words are not those of rename ID NAME"},
         {"query", {"1", NULL}, "the words are not those of query"},
         {"sign", {"1", "0", NULL}, "sign: HEX is no even number of hex digits"},
         {"rng", {"007", NULL}, "rng: N is no number from -2147483648 to "},
         {"rng", {"2147483648", NULL}, "rng: N is no number from -2147483648 to "},
-        {"get", {"\xED\xA0\x80", NULL}, "get: ID is no text: "},
-        {"attributes", {"1", "State", "\xFF", NULL}, "attributes: NAME is no text: "},
+        {"get", {"\xED\xA0\x80", NULL}, "the name of the call is no text, or a text is not UTF-8"},
+        {"attributes",
+         {"1", "State", "\xFF", NULL},
+         "the name of the call is no text, or a text is not UTF-8"},
         {"attributes", {NULL}, "the words are not those of attributes ID [NAME..]"},
         {"sign",
          {"1", "00", "padding=PSS", "hash=SHA3", NULL},
@@ -149,7 +150,7 @@ static void refused(kmip_client *client) {
         {"locate", {"name=a", "state=x", NULL}, "locate: state=x is none of PreActive, Active, "},
         {"locate", {"name=a", "b", NULL}, "locate: ATTRIBUTE is none of name=, group=, "},
         {"locate", {"where", "name=a", "b", NULL}, "locate: ATTRIBUTE is none of name=, group=, "},
-        {"locate", {"\xFF", NULL}, "locate: NAME is no text: "},
+        {"locate", {"\xFF", NULL}, "the name of the call is no text, or a text is not UTF-8"},
         {"sign",
          {"1", "00", "hash=SHA384", "prehashed", NULL},
          "prehashed and hash= exclude each other: KMIP 1.2 has no digested data in Sign, "},
@@ -271,7 +272,7 @@ static void announced(kmip_settings settings) {
 }
 
 /* Any operation, by its name and a payload in JSON. */
-static void operation(kmip_client *client) {
+static void any_operation(kmip_client *client) {
     static const char encrypt[] =
         "{\"tag\":\"RequestPayload\",\"value\":[{\"tag\":"
         "\"UniqueIdentifier\",\"type\":\"TextString\",\"value\":\"k1\"}]}";
@@ -365,7 +366,9 @@ static void certificate(kmip_client *client, const kmip_settings *settings) {
 
 /* Words that are counted: none is lost where one is null. */
 static void counted(kmip_client *client) {
-    const char *const words[] = {"mine", "00", NULL, "hash=SHA512"};
+    const kmip_word none = {NULL, 0, false};
+    const kmip_word words[] = {kmip_text_word("mine"), kmip_text_word("00"), none,
+                               kmip_text_word("hash=SHA512")};
     check(kmip_call_array(client, "sign", words, 2) == KMIP_ANSWERED, "words that are counted");
     check_text(kmip_text(client, "unique_identifier", NULL), "mine", "and their answer");
     check(kmip_call_array(client, "sign", words, 4) == KMIP_CALL_GRAMMAR && !kmip_was_sent(client),
@@ -399,7 +402,7 @@ int main(int argc, char **argv) {
     if (strcmp(mode, "another_object") == 0) another_object(client);
     if (strcmp(mode, "ended") == 0) ended(client);
     if (strcmp(mode, "values") == 0) values(client);
-    if (strcmp(mode, "operation") == 0) operation(client), empty_identifier(client);
+    if (strcmp(mode, "operation") == 0) any_operation(client), empty_identifier(client);
     if (strcmp(mode, "certificate") == 0) certificate(client, &settings);
     if (strcmp(mode, "counted") == 0) counted(client);
     if (strcmp(mode, "refused") == 0) refused(client);

@@ -1,6 +1,6 @@
-/* Unique Batch Item IDs of operations and batches: ids MODE HOST PORT CERTIFICATE KEY AUTHORITY. It is linked
-   with -Wl,--wrap=getrandom, so that the client's random bytes may be refused, and none of
-   OpenSSL's. */
+/* Unique Batch Item IDs of operations, of calls of the table and of batches: ids MODE HOST PORT
+   CERTIFICATE KEY AUTHORITY. It is linked with -Wl,--wrap=getrandom, so that the client's random
+   bytes may be refused, and none of OpenSSL's. */
 #define _DEFAULT_SOURCE
 #include "ders.h"
 #include "testing.h"
@@ -36,40 +36,52 @@ static void next_errors(int first, int second) {
     asked = 0;
 }
 
-/* The ID that came, which the server answers as the data. */
-static void id_of_last(kmip_client *client, uint8_t into[8], const char *what) {
+/* The ID that came, which the server answers as the data, at this path. */
+static void id_of_last(kmip_client *client, const char *path, uint8_t into[8], const char *what) {
     size_t length = 0;
-    const uint8_t *data = kmip_bytes(client, "Data", &length);
+    const uint8_t *data = kmip_bytes(client, path, &length);
     check(data && length == 8, what);
     memset(into, 0, 8);
     if (data && length == 8) memcpy(into, data, 8);
 }
 
-/* Each operation has eight bytes of its own. */
+/* Each operation, and each call of the table, has eight bytes of its own. */
 static void own(kmip_client *client, const kmip_settings *settings) {
-    uint8_t ids[3][8];
+    enum { IDS = 5 };
+    uint8_t ids[IDS][8];
+    bool differ = true;
     for (size_t i = 0; i < 2; i++) {
         check(kmip_operation(client, "Encrypt", "1.2", PAYLOAD("k")) == KMIP_ANSWERED, "Encrypt");
-        id_of_last(client, ids[i], "has an ID of eight bytes");
+        id_of_last(client, "Data", ids[i], "has an ID of eight bytes");
+        check(kmip_call(client, "encrypt", "k", "00", NULL) == KMIP_ANSWERED, "encrypt");
+        id_of_last(client, "data", ids[3 + i], "has one, too");
     }
     size_t length;
     uint8_t *der = der_of_certificate(settings->certificate, &length);
     check(kmip_register_certificate(client, der, length, NULL, NULL) == KMIP_ANSWERED, "Register");
-    id_of_last(client, ids[2], "has one, too");
+    id_of_last(client, "Data", ids[2], "has one, too");
     OPENSSL_free(der);
-    check(memcmp(ids[0], ids[1], 8) != 0 && memcmp(ids[0], ids[2], 8) != 0 &&
-              memcmp(ids[1], ids[2], 8) != 0,
-          "and each another one");
+    for (size_t i = 0; i < IDS; i++)
+        for (size_t j = 0; j < i; j++)
+            differ = differ && memcmp(ids[i], ids[j], 8) != 0;
+    check(differ, "and each another one");
+    check(kmip_call(client, "activate", "k", NULL) == KMIP_ANSWERED, "a typed call");
+    check(!kmip_bytes(client, "Data", NULL) && !kmip_bytes(client, "data", NULL), "has none");
 }
 
 /* Where the system has no random bytes, nothing is sent. */
-static void no_random(kmip_client *client) {
+static void no_random(const kmip_settings *settings, bool by_words) {
+    kmip_client *client = opened(settings);
     next_errors(EINTR, 0);
     check(kmip_operation(client, "Encrypt", "1.2", PAYLOAD("k")) == KMIP_ANSWERED && asked == 2,
           "a signal while they are made is none of the call's");
     next_errors(ENOSYS, 0);
-    check(kmip_operation(client, "Encrypt", "1.2", PAYLOAD("k")) == KMIP_LOST &&
-              !kmip_was_sent(client) && kmip_error_kind(client) == KMIP_KIND_WRITE,
+    check(kmip_call(client, "activate", "k", NULL) == KMIP_ANSWERED && asked == 0,
+          "a typed call wants no random bytes");
+    int status = by_words ? kmip_call(client, "encrypt", "k", "00", NULL)
+                          : kmip_operation(client, "Encrypt", "1.2", PAYLOAD("k"));
+    check(status == KMIP_LOST && !kmip_was_sent(client) &&
+              kmip_error_kind(client) == KMIP_KIND_WRITE,
           "without random bytes nothing is sent");
     check_text(kmip_line(client),
                "{\"error\":\"RequestWriteError\",\"text\":\"no random bytes for the Unique Batch "
@@ -77,6 +89,7 @@ static void no_random(kmip_client *client) {
                "and the cause is said");
     check(kmip_call(client, "activate", "k", NULL) == KMIP_LOST && !kmip_was_sent(client),
           "the connection is closed");
+    kmip_close(client);
 }
 
 static char kept_line[4000];
@@ -88,7 +101,7 @@ static void keep_line(void *data, const char *line, size_t length) {
 
 /* Whether the record has these IDs, in this order: of the request, and of the response, which has
    the last item first. */
-static bool recorded(const char *const *ids, size_t count) {
+static bool has_recorded(const char *const *ids, size_t count) {
     const char *at = kept_line;
     for (size_t i = 0; at && i < count; i++) {
         at = strstr(at, "4200930800000008");
@@ -108,9 +121,9 @@ static void of_batch(kmip_settings settings) {
     for (int i = 0; i < 3; i++)
         check(kmip_batch_call(batch, "activate", "k", NULL) == KMIP_ANSWERED, "a call is added");
     are_last = true;
-    check(kmip_batch_send(batch) == KMIP_ANSWERED && recorded(last, 6), "a batch has IDs");
+    check(kmip_batch_send(batch) == KMIP_ANSWERED && has_recorded(last, 6), "a batch has IDs");
     are_last = false;
-    check(kmip_batch_send(batch) == KMIP_ANSWERED && !recorded(last, 6), "and then others");
+    check(kmip_batch_send(batch) == KMIP_ANSWERED && !has_recorded(last, 6), "and then others");
     next_errors(ENOSYS, 0);
     check(kmip_batch_send(batch) == KMIP_LOST && !kmip_was_sent(client) &&
               kmip_error_kind(client) == KMIP_KIND_WRITE,
@@ -122,24 +135,29 @@ static void of_batch(kmip_settings settings) {
     kmip_close(client);
 }
 
-/* An answer that has not the ID of its request is none to it. */
+/* An answer that has not the ID of its request is none to it; without a payload, to one of words. */
 static void is_lost(const kmip_settings *settings, const char *payload, const char *what) {
     kmip_client *client = opened(settings);
     static const char why[] = "{\"error\":\"InternalError\",\"text\":\"Response does not have the "
                               "request's Unique Batch Item ID\"";
-    check(kmip_operation(client, "Encrypt", "1.2", payload) == KMIP_LOST &&
-              kmip_error_kind(client) == KMIP_KIND_OTHER_ANSWER && kmip_was_sent(client),
+    int status = payload ? kmip_operation(client, "Encrypt", "1.2", payload)
+                         : kmip_call(client, "encrypt", "k", "00", NULL);
+    check(status == KMIP_LOST && kmip_error_kind(client) == KMIP_KIND_OTHER_ANSWER &&
+              kmip_was_sent(client),
           what);
     check(strncmp(kmip_line(client), why, sizeof why - 1) == 0, "and why is said");
-    check(kmip_text(client, "UniqueIdentifier", NULL) == NULL, "it has no value");
+    check(!kmip_text(client, "UniqueIdentifier", NULL) &&
+              !kmip_text(client, "unique_identifier", NULL),
+          "it has no value");
     check(kmip_call(client, "activate", "k", NULL) == KMIP_LOST && !kmip_was_sent(client),
           "the connection is closed");
     kmip_close(client);
 }
 
-static void others(kmip_client *client, const kmip_settings *settings) {
-    check(kmip_call(client, "activate", "k", NULL) == KMIP_ANSWERED, "a call of words has no ID");
+static void other_ids(kmip_client *client, const kmip_settings *settings) {
+    check(kmip_call(client, "activate", "k", NULL) == KMIP_ANSWERED, "a typed call has no ID");
     is_lost(settings, PAYLOAD("k"), "an answer without the ID of the request is lost");
+    is_lost(settings, NULL, "so is one to a call of the table");
     is_lost(settings, PAYLOAD("failing"), "so is a failure");
     size_t length;
     uint8_t *der = der_of_certificate(settings->certificate, &length);
@@ -151,8 +169,9 @@ static void others(kmip_client *client, const kmip_settings *settings) {
 /* A server that could not read a request knows neither its operation nor its ID. */
 static void unread(kmip_client *client) {
     for (int i = 0; i < 2; i++) {
-        check(kmip_operation(client, "Encrypt", "1.2", PAYLOAD("k")) == KMIP_REFUSED &&
-                  kmip_error_kind(client) == KMIP_KIND_INVALID_MESSAGE,
+        int status = i == 0 ? kmip_operation(client, "Encrypt", "1.2", PAYLOAD("k"))
+                            : kmip_call(client, "encrypt", "k", "00", NULL);
+        check(status == KMIP_REFUSED && kmip_error_kind(client) == KMIP_KIND_INVALID_MESSAGE,
               "a failure of the message is that of the call");
         check(strstr(kmip_line(client), "\"message\":\"not read\"") != NULL,
               "with the server's message");
@@ -164,9 +183,13 @@ int main(int argc, char **argv) {
     const char *mode = argv[1];
     const kmip_settings settings = settings_of(argv + 1);
     kmip_client *client = opened(&settings);
-    if (strcmp(mode, "ids") == 0) own(client, &settings), no_random(client);
+    if (strcmp(mode, "ids") == 0) {
+        own(client, &settings);
+        no_random(&settings, false);
+        no_random(&settings, true);
+    }
     if (strcmp(mode, "batches") == 0) of_batch(settings);
-    if (strcmp(mode, "no_id") == 0 || strcmp(mode, "other_id") == 0) others(client, &settings);
+    if (strcmp(mode, "no_id") == 0 || strcmp(mode, "other_id") == 0) other_ids(client, &settings);
     if (strcmp(mode, "unread") == 0) unread(client);
     kmip_close(client);
     return outcome();

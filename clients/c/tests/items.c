@@ -1,5 +1,5 @@
-/* Values of the answer to an operation, and the payload of a certificate, with no server: items
-   HOST PORT CERTIFICATE KEY AUTHORITY. */
+/* Values of answers, and the payload of a certificate, with no server: items HOST PORT CERTIFICATE
+   KEY AUTHORITY. */
 #define _DEFAULT_SOURCE
 #include "ders.h"
 #include "metsuwan_internal.h"
@@ -27,9 +27,7 @@ static const char line[] =
 static kmip_room value;
 
 static int64_t found_at(const char *text, const char *path, bool hex) {
-    int64_t found = kmip_item_value(text, path, hex, &value);
-    if (found >= 0) value.bytes[found] = 0;
-    return found;
+    return kmip_value_of(text, path, hex, &value);
 }
 
 static void texts(void) {
@@ -65,7 +63,7 @@ static void octets(void) {
     check(found_at(line, "UniqueIdentifier", true) == -1, "no bytes of a Text String");
 }
 
-static void missing(void) {
+static void missing_values(void) {
     static const char *const paths[] = {"",
                                         ".",
                                         "0",
@@ -116,7 +114,7 @@ static uint8_t *der;
 static size_t der_len;
 static char der_hex[8000];
 
-static void take_certificate(const char *path) {
+static void load_certificate(const char *path) {
     der = der_of_certificate(path, &der_len);
     if (2 * der_len >= sizeof der_hex) exit(1);
     for (size_t i = 0; i < der_len; i++)
@@ -124,8 +122,8 @@ static void take_certificate(const char *path) {
 }
 
 /* It is registered with the payload that is written here by hand. */
-static void registers(const void *certificate, size_t length, const char *name, const char *usage,
-                      const char *attributes) {
+static void writes_payload(const void *certificate, size_t length, const char *name,
+                           const char *usage, const char *attributes) {
     static const char front[] =
         "{\"tag\":\"RequestPayload\",\"value\":["
         "{\"tag\":\"ObjectType\",\"type\":\"Enumeration\",\"value\":\"0x00000001\"},"
@@ -163,16 +161,16 @@ static void certificates(void) {
     char both[1000];
     snprintf(both, sizeof both, "%s,%s", usage, name);
     char *pem = pem_of(der, der_len);
-    registers(der, der_len, NULL, NULL, "");
-    registers(pem, strlen(pem), NULL, NULL, "");
-    registers(pem, strlen(pem), NULL, uses, usage);
-    registers(pem, strlen(pem), "the \"root\"\n\xC3\xA9", NULL, name);
-    registers(der, der_len, "the \"root\"\n\xC3\xA9", uses, both);
+    writes_payload(der, der_len, NULL, NULL, "");
+    writes_payload(pem, strlen(pem), NULL, NULL, "");
+    writes_payload(pem, strlen(pem), NULL, uses, usage);
+    writes_payload(pem, strlen(pem), "the \"root\"\n\xC3\xA9", NULL, name);
+    writes_payload(der, der_len, "the \"root\"\n\xC3\xA9", uses, both);
     free(pem);
 }
 
-static void refuses(const void *certificate, size_t length, const char *name, const char *usage,
-                    const char *why) {
+static void refuses_certificate(const void *certificate, size_t length, const char *name,
+                                const char *usage, const char *why) {
     kmip_room room = {NULL, 0};
     check_text(kmip_write_certificate(&room, certificate, length, name, usage), why, why);
     kmip_room_free(&room);
@@ -199,21 +197,23 @@ static void no_certificates(void) {
     char why[120], text[120];
     for (size_t i = 0; i < sizeof rows / sizeof *rows; i++) {
         snprintf(why, sizeof why, "the certificate is %s", rows[i].why);
-        refuses(rows[i].text, strlen(rows[i].text), NULL, NULL, why);
+        refuses_certificate(rows[i].text, strlen(rows[i].text), NULL, NULL, why);
     }
     for (size_t i = 0; i < sizeof no_base64 / sizeof *no_base64; i++) {
         snprintf(text, sizeof text, BEGIN "%s" END, no_base64[i]);
-        refuses(text, strlen(text), NULL, NULL, "the certificate is not base64 in its PEM");
+        refuses_certificate(text, strlen(text), NULL, NULL,
+                            "the certificate is not base64 in its PEM");
     }
-    refuses(BEGIN "MAA=", strlen(BEGIN) + 4, NULL, NULL, "the certificate has no end in its PEM");
+    refuses_certificate(BEGIN "MAA=", strlen(BEGIN) + 4, NULL, NULL,
+                        "the certificate has no end in its PEM");
     static const char other[] = BEGIN "MQA=" END;
-    refuses(other, sizeof other - 1, NULL, NULL,
-            "the certificate is not one whole structure of DER in its PEM");
-    refuses("0", 1, "\xFF", NULL, "name is not UTF-8");
+    refuses_certificate(other, sizeof other - 1, NULL, NULL,
+                        "the certificate is not one whole structure of DER in its PEM");
+    refuses_certificate("0", 1, "\xFF", NULL, "name is not UTF-8");
     static const char *const usages[] = {"",       ",",           "Verify,", "Verify, Sign",
                                          "verify", "Verify Sign", "Verif",   "Verifying"};
     for (size_t i = 0; i < sizeof usages / sizeof *usages; i++)
-        refuses("\x30\x00", 2, NULL, usages[i], "usage is not names of KMIP");
+        refuses_certificate("\x30\x00", 2, NULL, usages[i], "usage is not names of KMIP");
 }
 
 /* What servers would show to everybody, as they do a certificate. */
@@ -222,9 +222,9 @@ static void no_keys(const char *path) {
     size_t length;
     uint8_t *key = der_of_key(path, &length);
     char *pem = pem_of(key, length);
-    refuses(key, length, NULL, NULL, why);
-    refuses(pem, strlen(pem), NULL, NULL, why);
-    refuses("0\x00", 2, NULL, NULL, why);
+    refuses_certificate(key, length, NULL, NULL, why);
+    refuses_certificate(pem, strlen(pem), NULL, NULL, why);
+    refuses_certificate("0\x00", 2, NULL, NULL, why);
     der[der_len - 1] ^= 1; /* of its signature, which is not looked at */
     kmip_room room = {NULL, 0};
     check(!kmip_write_certificate(&room, der, der_len, NULL, NULL), "a signature is not verified");
@@ -237,9 +237,9 @@ int main(int argc, char **argv) {
     if (argc < 6) return 2;
     texts();
     octets();
-    missing();
+    missing_values();
     torn();
-    take_certificate(argv[3]);
+    load_certificate(argv[3]);
     certificates();
     no_certificates();
     no_keys(argv[4]);

@@ -78,31 +78,34 @@ static uint8_t *response_of(size_t count, size_t *length) {
 
 /* Reads a key of so many bytes out of its response: how often the library asked for memory. */
 static long reads(size_t count) {
-    static const uint8_t call[] = "get k";
+    static const uint8_t none[1];
     static const char path[] =
         "cryptographic_object.SymmetricKey.key_block.key_value.key_material.Bytes";
+    const kmip_word call[] = {kmip_text_word("get"), kmip_text_word("k")};
     size_t length, room = 2 * count + 4096, right = 0;
     int64_t line_len = 0;
-    uint8_t *response = response_of(count, &length), *line = malloc(room);
-    if (!line) exit(1);
+    uint8_t *response = response_of(count, &length), *line = malloc(room), *key = malloc(count);
+    if (!line || !key) exit(1);
     asked = 0;
     looks = true;
     left = false;
     double from = seconds_now();
-    int32_t status = kmip_answer(call, sizeof call - 1, response, length, line, room, &line_len);
+    int32_t status = kmip_answer(call, 2, none, 0, response, length, line, room, &line_len);
     check(status == KMIP_ANSWERED && line_len > 2 * (int64_t)count, "a large key is read");
-    int64_t found = kmip_value(call, sizeof call - 1, response, length, (const uint8_t *)path,
-                               sizeof path - 1, true, line, room);
+    int64_t found = kmip_value(line, (size_t)line_len, (const uint8_t *)path, sizeof path - 1, true,
+                               key, count);
     looks = false;
     printf("        %zu bytes in %.2f seconds\n", count, seconds_now() - from);
-    while (right < count && line[right] == 0xC5)
+    while (right < count && key[right] == 0xC5)
         right++;
     check(found == (int64_t)count && right == count, "as it is");
     check(!left, "and no memory that was freed has any of it");
     long times = asked;
     explicit_bzero(line,
                    room); /* a block that is larger than what was asked for may have it again */
+    explicit_bzero(key, count);
     explicit_bzero(response, length);
+    free(key);
     free(line);
     free(response);
     return times;

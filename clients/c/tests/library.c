@@ -26,7 +26,7 @@ static void leaves(kmip_client *client, void (*leave)(kmip_client *), const char
           "and the parent's connection is good");
 }
 
-static void calls(kmip_client *client) {
+static void makes_no_call(kmip_client *client) {
     if (kmip_call(client, "query", NULL) != KMIP_LOST || kmip_was_sent(client)) _exit(1);
     kmip_close(client);
 }
@@ -35,7 +35,7 @@ static void forks(const kmip_settings *settings) {
     kmip_client *client = opened(settings);
     leaves(client, kmip_abandon, "a child gives its parent's client up");
     leaves(client, kmip_close, "a child closes its parent's client");
-    leaves(client, calls, "a child makes no call over its parent's connection");
+    leaves(client, makes_no_call, "a child makes no call over its parent's connection");
     kmip_close(client);
     kmip_abandon(NULL);
 }
@@ -306,40 +306,37 @@ static void kinds(void) {
           "the library has the version of its header, and says what it was compiled from");
 }
 
-/* Whether the request of a line has this attribute with this text. */
-static bool asks_for(const char *line, const char *attribute) {
+/* Whether the request of a search has this text. */
+static bool asks_for(const kmip_words *words, const char *text) {
     uint8_t request[4096];
-    const uint8_t nothing[1] = {0};
-    int64_t length = kmip_request((const uint8_t *)line, strlen(line), false, nothing, 0, nothing,
-                                  0, request, sizeof request);
-    size_t count = strlen(attribute);
+    const uint8_t none[1] = {0};
+    int64_t length = kmip_request(words->at, words->count, none, 0, false, none, 0, none, 0,
+                                  request, sizeof request);
+    size_t count = strlen(text);
     for (int64_t at = 0; at + (int64_t)count <= length; at++)
-        if (memcmp(request + at, attribute, count) == 0) return true;
+        if (memcmp(request + at, text, count) == 0) return true;
     return false;
 }
 
 /* A single word of `locate` is a name, whatever stands in it. */
 static void searches(void) {
     static const struct {
-        const char *words[4], *line, *attribute, *other;
+        const char *words[4], *asked[2], *other;
     } rows[] = {
-        {{"state=Active", NULL}, "locate state%3DActive", "Name", "State"},
-        {{"where", NULL}, "locate where", "Name", "State"},
-        {{"where", "state=Active", NULL}, "locate where state=Active", "State", "where"},
-        {{"where", "state=Active", "name=a b", NULL},
-         "locate where state=Active name=a%20b",
-         "Name",
-         "where"},
-        {{"state=Active", "name=a b", NULL}, "locate state=Active name=a%20b", "Name", "where"},
+        {{"state=Active", NULL}, {"Name", "state=Active"}, "State"},
+        {{"where", NULL}, {"Name", "where"}, "State"},
+        {{"where", "state=Active", NULL}, {"State", "State"}, "where"},
+        {{"where", "state=Active", "name=a b", NULL}, {"State", "a b"}, "where"},
+        {{"state=Active", "name=50% of a=b", NULL}, {"State", "50% of a=b"}, "where"},
     };
-    kmip_room line = {NULL, 0};
     for (size_t i = 0; i < sizeof rows / sizeof *rows; i++) {
-        check(kmip_write_words(&line, "locate", rows[i].words), "a search");
-        check_text((const char *)line.bytes, rows[i].line, "and its line");
-        check(asks_for(rows[i].line, rows[i].attribute) && !asks_for(rows[i].line, rows[i].other),
-              "which asks for what is meant");
+        kmip_words words = kmip_words_of_texts("locate", rows[i].words);
+        if (!words.at) exit(1);
+        check(asks_for(&words, rows[i].asked[0]) && asks_for(&words, rows[i].asked[1]) &&
+                  !asks_for(&words, rows[i].other),
+              "a search asks for what is meant");
+        free(words.at);
     }
-    kmip_room_free(&line);
 }
 
 int main(int argc, char **argv) {

@@ -24,7 +24,7 @@ void *__wrap_calloc(size_t count, size_t size) {
 }
 
 /* A certificate as PEM is registered, which the server answers with another operation. */
-static bool registers(kmip_client *client) {
+static bool registers_certificate(kmip_client *client) {
     int status = kmip_register_certificate(client, pem, strlen(pem), "root", "Verify");
     return status == KMIP_NO_MEMORY || status == KMIP_LOST;
 }
@@ -41,7 +41,7 @@ static bool session(const kmip_settings *settings) {
         /* With no memory for its copy, no credential would have been sent. */
         const char *vendor = kmip_text(client, "vendor_identification", NULL);
         right = vendor ? strcmp(vendor, "alice:secret") == 0 : refused != 0;
-        right = registers(client) && right;
+        right = registers_certificate(client) && right;
     } else {
         right = right && *kmip_line(client) == 0 && kmip_call(client, "query", NULL) == KMIP_LOST;
     }
@@ -53,8 +53,8 @@ static bool is_one_of(int status, int one) {
     return status == one || status == KMIP_NO_MEMORY;
 }
 
-/* The answer to the call at this place, which is a `sign` or else an operation. */
-static bool answers(kmip_client *client, kmip_batch *batch, size_t at) {
+/* The answer to the call at this place, which is one of words or else an operation. */
+static bool is_answered(kmip_client *client, kmip_batch *batch, size_t at) {
     int status = kmip_batch_answer(batch, at);
     if (status != KMIP_ANSWERED) return status == KMIP_NO_MEMORY;
     const char *own = kmip_text(client, "unique_identifier", NULL);
@@ -63,7 +63,7 @@ static bool answers(kmip_client *client, kmip_batch *batch, size_t at) {
     return own ? strcmp(own, "a") == 0 : refused != 0;
 }
 
-/* The same of a batch, where a lost connection is opened again. */
+/* The same of a call of the table and of a batch, where a lost connection is opened again. */
 static bool batch_session(const kmip_settings *settings) {
     static const char archive[] = "{\"tag\":\"RequestPayload\",\"value\":[{\"tag\":"
                                   "\"UniqueIdentifier\",\"type\":\"TextString\",\"value\":"
@@ -73,16 +73,19 @@ static bool batch_session(const kmip_settings *settings) {
     own.reconnect = true;
     kmip_client *client = kmip_open(&own, error, sizeof error);
     if (!client) return strstr(error, "memory") != NULL;
+    const kmip_word words[] = {kmip_text_word("k"), kmip_data_word("data", 4)};
+    bool right = is_one_of(kmip_call_array(client, "encrypt", words, 2), KMIP_ANSWERED);
     kmip_batch *batch = kmip_batch_new(client, KMIP_ON_ERROR_STOP);
-    bool right = batch || refused != 0;
+    right = right && (batch || refused != 0);
     int statuses[] = {kmip_batch_call(batch, "sign", "k", "78", NULL),
-                      kmip_batch_operation(batch, "Archive", "1.2", archive)};
-    for (size_t i = 0; batch && i < 2; i++)
+                      kmip_batch_operation(batch, "Archive", "1.2", archive),
+                      kmip_batch_array(batch, "encrypt", words, 2)};
+    for (size_t i = 0; batch && i < 3; i++)
         right = right && is_one_of(statuses[i], KMIP_ANSWERED);
     int status = kmip_batch_send(batch);
     right = right && (!batch || is_one_of(status, KMIP_ANSWERED));
     for (size_t i = 0; status == KMIP_ANSWERED && i < kmip_batch_count(batch); i++)
-        right = right && answers(client, batch, i);
+        right = right && is_answered(client, batch, i);
     kmip_batch_free(batch);
     kmip_close(client);
     return right;

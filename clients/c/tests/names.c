@@ -37,7 +37,7 @@ static void is_taken(kmip_settings settings, const char *host) {
     kmip_close(client);
 }
 
-static void fails(kmip_settings settings, const char *host, int status, const char *why) {
+static void connect_fails(kmip_settings settings, const char *host, int status, const char *why) {
     char error[300];
     kmip_client *client = NULL;
     settings.host = host;
@@ -47,7 +47,7 @@ static void fails(kmip_settings settings, const char *host, int status, const ch
 }
 
 static void is_refused(kmip_settings settings, const char *host, const char *why) {
-    fails(settings, host, KMIP_LOST, why);
+    connect_fails(settings, host, KMIP_LOST, why);
 }
 
 int main(int argc, char **argv) {
@@ -59,12 +59,12 @@ int main(int argc, char **argv) {
         is_taken(settings, "localhost."); /* a name that is complete */
         is_refused(settings, "kms.example.test", "ostname mismatch");
         is_refused(settings, "127.0.0.1", "IP address mismatch");
-        fails(settings, ".", KMIP_CALL_GRAMMAR, "ConfigurationError");
+        connect_fails(settings, ".", KMIP_CALL_GRAMMAR, "ConfigurationError");
     }
     if (strcmp(mode, "cn_only") == 0) is_refused(settings, "localhost", "ostname mismatch");
     if (strcmp(mode, "wildcard") == 0) {
         is_refused(settings, "kms.example.test", "ostname mismatch"); /* it has k*.example.test */
-        fails(settings, ".example.test", KMIP_CALL_GRAMMAR, "host begins with a dot");
+        connect_fails(settings, ".example.test", KMIP_CALL_GRAMMAR, "host begins with a dot");
     }
     if (strcmp(mode, "of_between") == 0) {
         /* Its authority, which is no root, is all that is trusted, and all that is known of. */

@@ -88,6 +88,12 @@ static void sent(const kmip_settings *settings) {
     check(kmip_operation(client, "MAC", "1.2", IDENTIFIER) == KMIP_ANSWERED, "by its operation");
     came(client, "3", "too");
     kmip_close(client);
+    changed = logged(*settings, "C by the table");
+    client = opened(&changed);
+    check(kmip_call(client, "encrypt", "k", "78", NULL) == KMIP_ANSWERED && seen.repeated == 1,
+          "by a call of the table");
+    came(client, "3", "too");
+    kmip_close(client);
     changed = logged(*settings, "C changing");
     client = opened(&changed);
     check(kmip_call(client, "activate", "k", NULL) == KMIP_LOST && kmip_was_sent(client) &&
@@ -98,6 +104,11 @@ static void sent(const kmip_settings *settings) {
     changed = logged(*settings, "C archive");
     client = opened(&changed);
     check(kmip_operation(client, "Archive", "1.2", IDENTIFIER) == KMIP_LOST, "nor by operation");
+    came(client, "2", "and goes on");
+    kmip_close(client);
+    changed = logged(*settings, "C archive by the table");
+    client = opened(&changed);
+    check(kmip_call(client, "archive", "k", NULL) == KMIP_LOST, "nor by a call of the table");
     came(client, "2", "and goes on");
     kmip_close(client);
 }
@@ -149,8 +160,8 @@ static void forks(kmip_settings settings) {
 
 /* The log tells of each call, and shows no value. */
 static void log_of_calls(kmip_settings settings) {
-    static const char *const secrets[] = {"the key", "the%20key", "74686520", "signature",
-                                          "geheim"};
+    static const char *const secrets[] = {"the key",  "the%20key", "74686520",
+                                          "the data", "signature", "geheim"};
     settings = logged(settings, "alice");
     settings.password = "geheim";
     kmip_client *client = opened(&settings);
@@ -164,16 +175,19 @@ static void log_of_calls(kmip_settings settings) {
     check(kmip_operation(client, "Encrypt", "1.2", IDENTIFIER) == KMIP_ANSWERED &&
               strcmp(seen.operation, "Encrypt") == 0,
           "so is an operation");
+    check(kmip_call(client, "encrypt", "the key", "7468652064617461", NULL) == KMIP_ANSWERED &&
+              strcmp(seen.operation, "encrypt") == 0,
+          "and a call of the table");
     kmip_batch *batch = kmip_batch_new(client, KMIP_ON_ERROR_CONTINUE);
     check(kmip_batch_call(batch, "query", NULL) == KMIP_ANSWERED &&
               kmip_batch_operation(batch, "Encrypt", "1.2", IDENTIFIER) == KMIP_ANSWERED &&
-              seen.calls == 2,
+              seen.calls == 3,
           "what was not sent is not told");
     check(kmip_batch_send(batch) == KMIP_LOST && strcmp(seen.operation, "batch") == 0 &&
               strstr(seen.text, ": a batch of 2: InternalError, "),
           "a batch is told");
     kmip_batch_free(batch);
-    check(kmip_call(client, "sign the key", NULL) == KMIP_CALL_GRAMMAR && seen.calls == 3,
+    check(kmip_call(client, "sign the key", NULL) == KMIP_CALL_GRAMMAR && seen.calls == 4,
           "what is no call is not");
     for (size_t i = 0; i < sizeof secrets / sizeof *secrets; i++)
         check(strstr(seen.all, secrets[i]) == NULL, "no value of it is told");

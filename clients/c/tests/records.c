@@ -17,6 +17,21 @@
 static const char activate[] = "raw " TO_ACTIVATE("12") " 42007B01";
 /* .. and that to archive it (4.21), which no script has a call for. */
 static const char archive[] = "message " TO_ACTIVATE("15") " 42007B01";
+/* The request to encrypt the byte 78 by the key `k` in ECB (KMIP 1.2, 4.29). */
+static const char encrypt[] = "message 4200780100000098"
+                              "4200770100000038"
+                              "4200690100000020"
+                              "42006A02000000040000000100000000"
+                              "42006B02000000040000000200000000"
+                              "42000D02000000040000000100000000"
+                              "42000F0100000050"
+                              "42005C05000000040000001F00000000"
+                              "4200790100000038"
+                              "42009407000000016B00000000000000"
+                              "42002B0100000010"
+                              "42001105000000040000000200000000"
+                              "4200C208000000017800000000000000"
+                              " 42007B01";
 static const char payload[] =
     "{\"tag\":\"RequestPayload\",\"value\":[{\"tag\":\"UniqueIdentifier\","
     "\"type\":\"TextString\",\"value\":\"k\"}]}";
@@ -58,8 +73,11 @@ static int32_t replayed(void) {
         if (sscanf(at, "%2x", &byte) != 1 || count == sizeof response) return -1;
         response[count] = (uint8_t)byte;
     }
-    return kmip_answer((const uint8_t *)kept.last, (size_t)(hex - kept.last), response, count, line,
-                       sizeof line, &length);
+    const size_t front = sizeof "raw " - 1;
+    const kmip_word words[] = {
+        kmip_text_word("raw"),
+        {(const uint8_t *)kept.last + front, (size_t)(hex - kept.last) - front, false}};
+    return kmip_answer(words, 2, line, 0, response, count, line, sizeof line, &length);
 }
 
 static void calls(const kmip_settings *settings) {
@@ -72,7 +90,10 @@ static void calls(const kmip_settings *settings) {
     check(replayed() == KMIP_ANSWERED, "which is answered again, too");
     check(kmip_operation(client, "Archive", "1.0", payload) == KMIP_ANSWERED && begins(archive),
           "an operation that is none");
-    check(kmip_call(client, "activate", "", NULL) == KMIP_CALL_GRAMMAR && kept.lines == 3,
+    check(kmip_call(client, "encrypt", "k", "78", "mode=ECB", NULL) == KMIP_ANSWERED &&
+              begins(encrypt),
+          "a call of the table");
+    check(kmip_call(client, "activate", "", NULL) == KMIP_CALL_GRAMMAR && kept.lines == 4,
           "what is not sent is not recorded");
     kmip_close(client);
 }

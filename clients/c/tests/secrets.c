@@ -55,7 +55,7 @@ static void none_of(const secret *one) {
 }
 
 /* Gets a key once, so that each function is called for the first time, and closes the client. */
-static void once(const kmip_settings *settings, const char *name) {
+static void warm_up(const kmip_settings *settings, const char *name) {
     static secret ends[32]; /* each of some bytes, beginning with another of the last 64 */
     enum { ENDS = sizeof ends / sizeof *ends };
     size_t length = 0;
@@ -74,19 +74,20 @@ static void once(const kmip_settings *settings, const char *name) {
 }
 
 /* Reads a text of the environment, and overwrites it there. */
-static void take(const char *name, char *into, size_t room) {
+static void take_secret(const char *name, char *into, size_t room) {
     char *text = getenv(name);
     snprintf(into, room, "%s", text ? text : "");
     if (text) explicit_bzero(text, strlen(text));
 }
 
 int main(int argc, char **argv) {
-    static secret password, passphrase, material;
+    static secret password, passphrase, material, data;
     char text[100], phrase[100];
+    uint8_t plain[64];
     size_t length = 0;
     if (argc < 7) return 2;
-    take("SECRET_PASSWORD", text, sizeof text);
-    take("SECRET_PASSPHRASE", phrase, sizeof phrase);
+    take_secret("SECRET_PASSWORD", text, sizeof text);
+    take_secret("SECRET_PASSPHRASE", phrase, sizeof phrase);
     turn(&password, "the password", text, strlen(text));
     turn(&passphrase, "the passphrase", phrase, strlen(phrase));
     kmip_settings settings = settings_of(argv + 1);
@@ -94,7 +95,7 @@ int main(int argc, char **argv) {
     settings.password = text;
     settings.passphrase = phrase;
     settings.reconnect = true;
-    once(&settings, argv[1]);
+    warm_up(&settings, argv[1]);
     kmip_client *client = opened(&settings);
     explicit_bzero(text, sizeof text);
     explicit_bzero(phrase, sizeof phrase);
@@ -110,11 +111,19 @@ int main(int argc, char **argv) {
               kmip_batch_call(batch, "get", argv[1], NULL) == KMIP_ANSWERED &&
               kmip_batch_send(batch) == KMIP_LOST,
           "a batch, of which this server knows nothing");
+    if (getentropy(plain, sizeof plain) != 0) return 2;
+    turn(&data, "the plaintext", plain, sizeof plain);
+    const kmip_word words[] = {kmip_text_word(argv[1]), kmip_data_word(plain, sizeof plain)};
+    check(kmip_batch_array(batch, "encrypt", words, 2) == KMIP_ANSWERED, "data in a batch");
+    check(kmip_call_array(client, "encrypt", words, 2) == KMIP_LOST, "data that are sent");
+    explicit_bzero(plain, sizeof plain);
     check(kmip_call(client, "get", argv[1], NULL) == KMIP_ANSWERED, "a connection once more");
+    check(count(&data, data.turned, sizeof data.turned) > 0, "the plaintext is found in the batch");
     kmip_batch_free(batch);
     kmip_close(client);
     none_of(&password);
     none_of(&passphrase);
     none_of(&material);
+    none_of(&data);
     return outcome();
 }

@@ -127,6 +127,24 @@ static void parts(void) {
     check("no data at all", signs(""));
 }
 
+/* Data of all bytes, also 0, and many. */
+static void octets(void) {
+    static uint8_t data[100000];
+    uint8_t made[ROOM];
+    size_t length = sizeof made;
+    for (size_t i = 0; i < sizeof data; i++)
+        data[i] = (uint8_t)i;
+    EVP_MD_CTX *one = EVP_MD_CTX_new(), *two = EVP_MD_CTX_new();
+    bool good = one && EVP_DigestSignInit_ex(one, NULL, "SHA256", NULL, NULL, key, NULL) > 0 &&
+                EVP_DigestSign(one, made, &length, data, sizeof data) > 0;
+    good = good && two &&
+           EVP_DigestVerifyInit_ex(two, NULL, "SHA256", NULL, NULL, public_key, NULL) > 0 &&
+           EVP_DigestVerify(two, made, length, data, sizeof data) == 1;
+    check("data of all bytes", good);
+    EVP_MD_CTX_free(one);
+    EVP_MD_CTX_free(two);
+}
+
 static void hashes(void) {
     static const char *const names[] = {"SHA224", "SHA256", "SHA384", "SHA512"};
     for (size_t i = 0; i < sizeof names / sizeof *names; i++) {
@@ -252,7 +270,7 @@ static void gone(pid_t server) {
           ended && !sign_by(key, "two", made, &length) && says("ConnectError"));
 }
 
-static EVP_PKEY *read_file(const char *path) {
+static EVP_PKEY *read_key_file(const char *path) {
     BIO *file = BIO_new_file(path, "r");
     EVP_PKEY *found = file ? PEM_read_bio_PrivateKey(file, NULL, NULL, NULL) : NULL;
     BIO_free(file);
@@ -261,7 +279,7 @@ static EVP_PKEY *read_file(const char *path) {
 
 static void bundle(char **files) {
     for (; *files; files++) {
-        EVP_PKEY *found = read_file(*files);
+        EVP_PKEY *found = read_key_file(*files);
         uint8_t made[ROOM];
         size_t length = sizeof made;
         char what[200];
@@ -272,7 +290,7 @@ static void bundle(char **files) {
 }
 
 static void wrong(const char *path, const char *text) {
-    EVP_PKEY *found = read_file(path);
+    EVP_PKEY *found = read_key_file(path);
     char what[200];
     snprintf(what, sizeof what, "%s has no key, and why", path);
     check(what, !found && says(text));
@@ -294,6 +312,7 @@ int main(int argc, char **argv) {
     count = number;
     if (strcmp(what, "uses") == 0) {
         parts();
+        octets();
         hashes();
         refusals();
         beside();

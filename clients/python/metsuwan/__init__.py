@@ -17,7 +17,7 @@ from .items import Item
 from .objects import KeyPair, ManagedObject, Signed
 from .pool import Pool
 
-__version__ = '1.0'
+__version__ = '2.0'
 
 __all__ = [
     'Batch', 'Client', 'ConnectError', 'ConnectionLost', 'DeserializeError', 'GrammarError',

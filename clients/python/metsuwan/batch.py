@@ -6,7 +6,7 @@ import json
 import struct
 from typing import TYPE_CHECKING, Any, Dict, Iterator, List, Mapping, Optional, Tuple, Union
 
-from .calls import Option, Word, line_of
+from .calls import Option, Word, call_of
 from .errors import DeserializeError, GrammarError, KmipError, NotDone, OtherObject
 from .items import Item
 from .library import Call, Operation
@@ -161,7 +161,7 @@ class Batch:
 
         :raises GrammarError: it is none
         """
-        return self._add(line_of(name, words, options))
+        return self._add(call_of(name, words, options))
 
     def operation(self, name: str, payload: 'Payload', *, version: str = '1.2') -> 'Batch':
         """Adds a call of any operation, as ``Client.operation``.

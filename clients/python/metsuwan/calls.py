@@ -1,137 +1,103 @@
-"""The calls of the grammar, and how values of Python become their words.
+"""How values of Python become the words of a call.
 
-The library alone says what is of the grammar. This table says which values a call takes, so that
-bytes are not taken for a text, or a number for bytes.
+The library alone says what is a call, and takes a text or data as it is. These tables say which
+values a call takes, so that bytes are not taken for the hex digits of a text, a text for those of
+bytes, or a number for either.
 """
 from __future__ import annotations
 
-import re
-from typing import (Any, Callable, Dict, Iterator, List, Mapping, NamedTuple, Sequence, Tuple,
-                    Union)
-from urllib.parse import quote
+from typing import Dict, Iterator, Mapping, NamedTuple, Sequence, Tuple, Union
 
 from .errors import GrammarError
-from .library import Library
+from .library import Call, Operation, Words
+from .pem import is_pem
 
 Bytes = Union[bytes, bytearray, memoryview]
 Word = Union[str, Bytes, int]
 Option = Union[Word, bool, Sequence[str], None]
-EMPTY = '-'
+PEM_IN_HEX = b'-----BEGIN '.hex().upper().encode()
 
 
 class Kind(NamedTuple):
-    """A kind of word: the types of its values, how one is written, and how one is read from a
-    text that was typed."""
+    """A kind of word: what it is, and the types of its values."""
 
     name: str
     types: Tuple[type, ...]
-    write: Callable[..., str]
-    read: Callable[[str], Any]
 
 
-def _write_text(text: str, errors: str = 'strict') -> str:
-    return '%2D' if text == EMPTY else quote(text, safe='', errors=errors) or EMPTY
+TEXT = Kind('a text', (str,))
+BYTES = Kind('bytes', (bytes, bytearray, memoryview))
+NUMBER = Kind('a number', (int,))
+# Names of what a key is for.
+NAMES = Kind('names of KMIP', (str, list, tuple))
+# An option that is a name alone, or is left out; and one whose value is `true` or `false`.
+FLAG, TRUTH = Kind('True or False', (bool,)), Kind('True or False', (bool,))
 
-
-def _write_bytes(value: Bytes) -> str:
-    return bytes(value).hex().upper() or EMPTY
-
-
-def _write_number(number: int) -> str:
-    if not -1 << 31 <= number < 1 << 31:
-        raise ValueError('it has more than 32 bits')
-    return str(number)
-
-
-def _read_bytes(text: str) -> bytes:
-    if not re.fullmatch('([0-9A-Fa-f]{2})*', text):
-        raise ValueError('it is not of hex digits, two for each byte')
-    return bytes.fromhex(text)
-
-
-def _read_number(text: str) -> int:
-    if not re.fullmatch('0|-?[1-9][0-9]{0,9}', text):
-        raise ValueError('it is not written in decimal digits, or has more than 32 bits')
-    return int(text)
-
-
-def _write_date(seconds: int) -> str:
-    if not 0 <= seconds < 1 << 32:
-        raise ValueError('it is not 0 to 4294967295')
-    return str(seconds)
-
-
-def _write_name(name: str) -> str:
-    if not re.fullmatch('[A-Za-z0-9_]+', name):
-        raise ValueError('it is not of letters, digits and _')
-    return name
-
-
-def _write_names(names: Union[str, Sequence[str]]) -> str:
-    return ','.join(map(_write_name, names.split(',') if isinstance(names, str) else names))
-
-
-def _write_flag(_: bool) -> str:
-    return ''
-
-
-def _read_flag(text: str) -> bool:
-    if text:
-        raise ValueError('it has no value')
-    return True
-
-
-IDENTIFIER = Kind('an identifier', (str,), _write_text, str)
-TEXT = Kind('a text', (str,), _write_text, str)
-BYTES = Kind('bytes', (bytes, bytearray, memoryview), _write_bytes, _read_bytes)
-NUMBER = Kind('a number', (int,), _write_number, _read_number)
-# KMIP's name of a value, as SHA256, or of several.
-NAME = Kind('a name of KMIP', (str,), _write_name, str)
-NAMES = Kind('names of KMIP', (str, list, tuple), _write_names, str)
-# Seconds since 1970-01-01 UTC.
-DATE = Kind('a date', (int,), _write_date, _read_number)
-FLAG = Kind('True', (bool,), _write_flag, _read_flag)
-
-# The words of each call, and its options, each a word `NAME=VALUE` after the others; `prehashed` is
-# a word alone.
+# The words of the typed calls; which of these take any number of texts more, and so no options; and
+# the options whose values are no texts.
 # clients/grammar.py: calls
 CALLS: Dict[str, Tuple[Kind, ...]] = {
     'query': (),
     'discover': (),
     'create-rsa': (NUMBER, TEXT, TEXT),
     'create-aes': (NUMBER, TEXT),
-    'create': (NAME, NUMBER, TEXT),
-    'register': (NAME, BYTES),
+    'create': (TEXT, NUMBER, TEXT),
+    'register': (TEXT, BYTES),
     'locate': (TEXT,),
-    'attributes': (IDENTIFIER,),
-    'attribute-add': (IDENTIFIER,),
-    'attribute-modify': (IDENTIFIER,),
-    'attribute-delete': (IDENTIFIER, TEXT),
-    'activate': (IDENTIFIER,),
-    'sign': (IDENTIFIER, BYTES),
-    'rename': (IDENTIFIER, TEXT),
-    'get': (IDENTIFIER,),
-    'revoke': (IDENTIFIER,),
-    'destroy': (IDENTIFIER,),
+    'attributes': (TEXT,),
+    'attribute-add': (TEXT,),
+    'attribute-modify': (TEXT,),
+    'attribute-delete': (TEXT, TEXT),
+    'activate': (TEXT,),
+    'sign': (TEXT, BYTES),
+    'rename': (TEXT, TEXT),
+    'get': (TEXT,),
+    'revoke': (TEXT,),
+    'destroy': (TEXT,),
     'rng': (NUMBER,),
     'raw': (BYTES,),
 }
-
-ATTRIBUTES = {'name': TEXT, 'group': TEXT, 'contact': TEXT, 'type': NAME, 'state': NAME,
-              'algorithm': NAME, 'length': NUMBER, 'activation': DATE}
-OPTIONS: Dict[str, Dict[str, Kind]] = {
-    'create-rsa': {'private-usage': NAMES, 'public-usage': NAMES},
-    'create': {'usage': NAMES},
-    'register': {'format': NAME, 'algorithm': NAME, 'length': NUMBER, 'usage': NAMES, 'name': TEXT},
-    'locate': ATTRIBUTES,
-    'attribute-add': ATTRIBUTES,
-    'attribute-modify': {**ATTRIBUTES, 'index': NUMBER},
-    'attribute-delete': {'index': NUMBER},
-    'sign': {'hash': NAME, 'padding': NAME, 'algorithm': NAME, 'prehashed': FLAG},
-    'get': {'format': NAME, 'wrap': IDENTIFIER},
-    'revoke': {'reason': NAME, 'message': TEXT, 'since': DATE},
-}
+MORE_TEXTS = {'attributes'}
+OPTIONS = {'private-usage': NAMES, 'public-usage': NAMES, 'usage': NAMES, 'length': NUMBER,
+           'activation': NUMBER, 'index': NUMBER, 'prehashed': FLAG, 'since': NUMBER}
 # clients/grammar.py: end
+
+# The same of the calls of the table of operations: bytes stand where the form of a call, which the
+# library's refusal shows, has DATA, MAC, SIGNATURE or HEX. The tests compare the two.
+TABLE: Dict[str, Tuple[Kind, ...]] = {
+    'encrypt': (TEXT, BYTES),
+    'decrypt': (TEXT, BYTES),
+    'mac': (TEXT, BYTES),
+    'mac-verify': (TEXT, BYTES, BYTES),
+    'verify': (TEXT, BYTES, BYTES),
+    'hash': (BYTES,),
+    'derive-key': (TEXT, TEXT),
+    'rekey': (TEXT,),
+    'rekey-pair': (TEXT,),
+    'certify': (TEXT,),
+    'recertify': (TEXT,),
+    'create-ec': (TEXT, TEXT, TEXT),
+    'create-pair': (TEXT, NUMBER, TEXT, TEXT),
+    'create-key': (TEXT, NUMBER, TEXT),
+    'check': (TEXT,),
+    'attribute-list': (TEXT,),
+    'lease': (TEXT,),
+    'usage-allocation': (TEXT, NUMBER),
+    'archive': (TEXT,),
+    'recover': (TEXT,),
+    'validate': (TEXT,),
+    'cancel': (BYTES,),
+    'poll': (BYTES,),
+    'rng-seed': (BYTES,),
+}
+MORE = {*MORE_TEXTS, 'validate'}
+KINDS: Dict[str, Kind] = {
+    **OPTIONS, 'random-iv': TRUTH, 'iv-length': NUMBER, 'tag-length': NUMBER,
+    'fixed-field-length': NUMBER, 'invocation-field-length': NUMBER, 'counter-length': NUMBER,
+    'initial-counter': NUMBER, 'iv': BYTES, 'data': BYTES, 'salt': BYTES, 'iterations': NUMBER,
+    'offset': NUMBER, 'request': BYTES, 'count': NUMBER, 'lease': NUMBER}
+WORDS = {**CALLS, **TABLE}
+TYPED = frozenset(name.encode() for name in CALLS)
 
 
 # KMIP's names of what an object is for, each with its bit (1.0, 9.1.3.3.1).
@@ -159,13 +125,18 @@ def uses_of(names: Union[str, Sequence[str]]) -> int:
     return bits
 
 
+def takes_id(call: Call) -> bool:
+    """Whether the request of a call has a Unique Batch Item ID, as that of no typed call has."""
+    return isinstance(call, Operation) or call.name not in TYPED
+
+
 def _kinds_of(name: str, count: int) -> Tuple[Kind, ...]:
     """The kinds of a call's words, which are so many."""
-    if name not in CALLS:
+    if name not in WORDS:
         raise GrammarError('there is no call %s' % name)
-    kinds = CALLS[name]
-    if name == 'attributes':
-        kinds += (TEXT,) * max(0, count - 1)
+    kinds = WORDS[name]
+    if name in MORE:
+        kinds += (TEXT,) * (count - len(kinds))
     if name == 'locate' and count == 0:
         return ()
     if count > len(kinds):
@@ -176,99 +147,88 @@ def _kinds_of(name: str, count: int) -> Tuple[Kind, ...]:
     return kinds
 
 
-def _write(where: str, kind: Kind, value: Option) -> str:
-    if not isinstance(value, kind.types) or isinstance(value, bool) != (kind is FLAG):
+def _check(where: str, kind: Kind, value: Option) -> None:
+    """Nothing, where a value is of this kind.
+
+    :raises TypeError: it is not
+    """
+    if not isinstance(value, kind.types) or isinstance(value, bool) != (bool in kind.types):
         raise TypeError('%s is %s, and %s was given' % (where, kind.name, type(value).__name__))
-    try:
-        word = kind.write(value)
-    except ValueError as error:
-        raise GrammarError('%s is not %s: %s' % (where, kind.name, error)) from None
-    if kind is IDENTIFIER and word == EMPTY:
-        # A server may take it for the last object that was made on the connection.
-        raise GrammarError('%s is empty, and has to be an identifier' % where)
-    return word
+
+
+def _text_of(value: Union[Word, bool, Sequence[str]]) -> str:
+    """The text that a value is given as, where it is not data."""
+    if isinstance(value, str):
+        return value
+    if isinstance(value, bool):
+        return 'true' if value else 'false'
+    if isinstance(value, int):
+        return '%d' % value
+    if isinstance(value, (bytes, bytearray, memoryview)):
+        return bytes(value).hex()
+    return ','.join(value)
+
+
+def _text_word(text: str) -> Tuple[bytes, bool]:
+    """A text as a word. One that is not UTF-8 stays so, and the library refuses it."""
+    return text.encode('utf-8', 'surrogatepass'), False
+
+
+def _word(where: str, kind: Kind, value: Word) -> Tuple[bytes, bool]:
+    _check(where, kind, value)
+    if isinstance(value, (bytes, bytearray, memoryview)):
+        return bytes(value), True
+    return _text_word(_text_of(value))
 
 
 def _options_of(name: str, options: Mapping[str, Option]) -> Iterator[str]:
-    """The words of the options that are given. An index stands behind the attribute."""
+    """The options that are given, each as one text. An index stands behind the attribute."""
     for given, value in sorted(options.items(), key=lambda option: option[0] == 'index'):
         option = given.replace('_', '-')
-        kind = OPTIONS.get(name, {}).get(option)
-        if kind is None:
-            raise GrammarError('%s: there is no option %s' % (name, option))
+        kind, where = KINDS.get(option, TEXT), '%s: %s' % (name, option)
         if value is None and name == 'locate':
             # One attribute less would be asked for, and more objects found than were meant.
-            raise TypeError('locate: %s is %s, and None was given' % (option, kind.name))
-        if value is None or value is False:
+            raise TypeError('%s is %s, and None was given' % (where, kind.name))
+        if value is None or (kind is FLAG and value is False):
             continue
-        word = _write('%s: %s' % (name, option), kind, value)
-        yield option if kind is FLAG else '%s=%s' % (option, word)
+        _check(where, kind, value)
+        yield option if kind is FLAG else '%s=%s' % (option, _text_of(value))
 
 
-def line_of(name: str, words: Sequence[Word], options: Mapping[str, Option] = {}) -> bytes:
-    """A call as a line of the grammar: the one place in which arguments become words.
+def _without_pem(call: Words) -> Words:
+    """The same call, where it does not register a text of PEM."""
+    for word, is_data in call.words[1:] if call.name == b'register' else ():
+        if is_pem(word) if is_data else word[:len(PEM_IN_HEX)].upper() == PEM_IN_HEX:
+            raise GrammarError('register: the key is PEM, which would be kept as its bytes: '
+                               'register_private_key and register_public_key take it')
+    return call
 
-    :raises GrammarError: there is no such call or option, or a word is none for it
-    :raises TypeError: a word is of another type
+
+def call_of(name: str, words: Sequence[Word], options: Mapping[str, Option] = {}) -> Words:
+    """A call of these values: the one place in which arguments become words.
+
+    :raises GrammarError: there is no such call, it has not so many words, or it registers PEM. What
+        else is none the library refuses
+    :raises TypeError: a value is of another type
     """
-    written: List[str] = [name]
-    given = list(_options_of(name, options))
-    if name == 'locate' and given and not words:
-        written.append('where')
-    for at, (kind, value) in enumerate(zip(_kinds_of(name, len(words)), words), 1):
-        written.append(_write('%s: word %d after it' % (name, at), kind, value))
-    return ' '.join([*written, *given]).encode()
+    kinds, given = _kinds_of(name, len(words)), list(_options_of(name, options))
+    if given and name in MORE:
+        # They would be taken for more of its texts.
+        raise GrammarError('%s has no options' % name)
+    if given and name == 'locate':
+        if words:
+            raise GrammarError('locate: a name stands alone; beside attributes it is one, name=')
+        given.insert(0, 'where')
+    made = [_word('%s: word %d after it' % (name, at), kind, value)
+            for at, (kind, value) in enumerate(zip(kinds, words), 1)]
+    return _without_pem(Words((_text_word(name), *made, *map(_text_word, given))))
 
 
-def words_of(name: str, texts: Sequence[str]) -> Tuple[List[Word], Dict[str, Option]]:
-    """The words and the options of a call whose arguments were typed: numbers in decimal, bytes
-    in hex, options as ``NAME=VALUE``. One word behind ``locate`` is a name, also with a ``=``.
+def words_of(texts: Sequence[str]) -> Words:
+    """A call as it was typed, its name first: numbers in decimal digits, bytes in hex digits, and
+    behind its words the options, as ``hash=SHA384``. Where it is none, the library says why.
 
-    :raises GrammarError: there is no such call, or a text is none of its words; the library says
-        which
+    :raises GrammarError: it registers PEM
+    :raises TypeError: a word is no text
     """
-    try:
-        return _read_texts(name, texts)
-    except GrammarError as error:
-        said = Library().refusal(_typed_line(name, texts)) if name in CALLS else None
-        raise GrammarError(said or str(error)) from None
-
-
-def _typed_line(name: str, texts: Sequence[str]) -> bytes:
-    """A call as it was typed, also where it is none."""
-    written = [name]
-    for text in texts:
-        option, equals, value = text.partition('=')
-        start = option + equals if equals and option in OPTIONS.get(name, {}) else ''
-        written.append(start + _write_text(value if start else text, 'replace'))
-    return ' '.join(written).encode()
-
-
-def _read_texts(name: str, texts: Sequence[str]) -> Tuple[List[Word], Dict[str, Option]]:
-    known, least = OPTIONS.get(name, {}), len(CALLS.get(name, ())) if name != 'locate' else 0
-    texts, rest = list(texts), list(texts[least:])
-    given: Dict[str, Option] = {}
-    if name == 'locate' and len(texts) > 1 and texts[0] == 'where':
-        rest = rest[1:]
-    is_option = ['=' in word and word.partition('=')[0] in known or known.get(word) is FLAG
-                 for word in rest]
-    if all(is_option) and (name != 'locate' or len(texts) > 1):
-        texts = texts[:least]
-        for word in rest:
-            option, _, value = word.partition('=')
-            if option in given:
-                raise GrammarError('%s: %s is given twice' % (name, option))
-            given[option] = _read('%s: %s' % (name, option), known[option], value)
-    kinds = _kinds_of(name, len(texts))
-    return [_read('%s: word %d after it' % (name, at), kind, text)
-            for at, (kind, text) in enumerate(zip(kinds, texts), 1)], given
-
-
-def _read(where: str, kind: Kind, text: str) -> Any:
-    try:
-        value = kind.read(text)
-    except ValueError as error:
-        raise GrammarError('%s is not %s: %s' % (where, kind.name, error)) from None
-    if kind is IDENTIFIER and not value:
-        raise GrammarError('%s is empty, and has to be an identifier' % where)
-    return value
+    return _without_pem(Words(tuple(_word('a typed word', TEXT, text) for text in texts)))

@@ -10,10 +10,9 @@ import threading
 import time
 from typing import (Any, Callable, Dict, Iterator, List, Mapping, Optional, Sequence, Tuple,
                     Union)
-from urllib.parse import unquote_to_bytes
 
 from .batch import Answer, Batch, ids_of, message_of, not_done, responses_of
-from .calls import Bytes, Option, Word, line_of
+from .calls import Bytes, Option, Word, call_of, takes_id, words_of
 from .errors import (ConnectError, ConnectionLost, DeserializeError, GrammarError, MissingValue,
                      KmipError, NotRecorded, OtherObject, RequestWriteError, ResponseReadError,
                      SerializeError, error_of)
@@ -23,16 +22,17 @@ from .library import (ANSWERED, CALL_GRAMMAR, GRAMMAR, LOST, NO_FORM, NO_MEMORY,
                       REFUSED, Call, Credential, Library, Operation)
 from .objects import KeyPair, ManagedObject, Signed, bytes_at, text_at, value_at
 from .operations import Names, Operations, attributes_of
-from .pem import certificate_der, is_pem
-from .records import Record, line_of as record_of
+from .pem import certificate_der
+from .records import Record, record_of
 from .wire import Passphrase, Port, Wire, context_of, is_host, is_port
 
 HEAD = 8
 LOG = logging.getLogger('metsuwan')
 # The calls that change nothing on the server: they may be made twice.
 CHANGELESS = frozenset(
-    b'query discover locate get attributes sign Query DiscoverVersions Locate Get GetAttributes '
-    b'GetAttributeList Sign SignatureVerify Encrypt Decrypt MAC MACVerify Hash Check'.split())
+    b'query discover locate get attributes sign encrypt decrypt mac mac-verify verify hash check '
+    b'attribute-list validate Query DiscoverVersions Locate Get GetAttributes GetAttributeList '
+    b'Sign SignatureVerify Encrypt Decrypt MAC MACVerify Hash Check Validate'.split())
 Payload = Union[str, Mapping[str, Any], Sequence[Mapping[str, Any]]]
 # The calls whose answer may be of a kind that their tables have not, and the operation of each.
 TREES = {b'get': b'Get', b'attributes': b'GetAttributes'}
@@ -184,18 +184,29 @@ class Client(Operations):
     def call(self, name: str, /, *words: Word, **options: Option) -> Dict[str, Any]:
         """Makes a call, and returns its answer as JSON has it.
 
-        ``name`` is the first word, as ``sign``; the others are texts, bytes or numbers, and are
-        written as the grammar wants them. ``options`` are those of the grammar, with ``_`` in the
-        place of ``-``; one that is None is not given.
+        ``name`` is that of a typed call, as ``sign``, or of one of the table of operations, as
+        ``encrypt``; the words behind it are texts, bytes or numbers, as they are. ``options`` have
+        ``_`` in the place of ``-``; one that is None is not given. What the answer has is a text, a
+        number, a truth value, a dict, or a list where it comes more than once; bytes are in hex::
+
+            kmip.call('encrypt', '5', b'hello', mode='CBC', iv=bytes(16))['data']
+
+        The request of a call of the table has eight random bytes as its Unique Batch Item ID. An
+        answer with another one, or with none, is that of another call. Whether it is about the
+        object that was asked about is then the caller's to look at.
 
         :raises KmipError: by kind, as ``ItemNotFound``
         :raises TypeError: a word is of another type than the call wants
         """
-        if name == 'register' and any(is_pem(bytes(word)) for word in words
-                                      if isinstance(word, (bytes, bytearray, memoryview))):
-            raise GrammarError('register: the key is PEM, which would be kept as its bytes: '
-                               'register_private_key and register_public_key take it')
-        return self._answer_to(line_of(name, words, options))
+        return self._answer_to(call_of(name, words, options))
+
+    def call_texts(self, *texts: str) -> Dict[str, Any]:
+        """Makes a call as it is typed in a line: its name, its words, and then its options, as
+        ``hash=SHA384``. Numbers are in decimal digits, and bytes in hex.
+
+        :raises KmipError: by kind, as ``ItemNotFound``
+        """
+        return self._answer_to(words_of(texts))
 
     def operation(self, name: str, payload: Payload, *, version: str = '1.2') -> Item:
         """Makes a call of any operation of KMIP 1.0 to 1.2, by its name, as ``Encrypt``.
@@ -222,9 +233,6 @@ class Client(Operations):
             raise GrammarError('the operation, the version or the payload is not UTF-8') from None
         answer = self._answer_to(call)
         return answer if isinstance(answer, Item) else Item.of_json(answer)
-
-    def _takes(self, call: Call) -> bool:
-        return self._library.request(call) != GRAMMAR
 
     def _wrong_with(self, call: Call) -> str:
         """What is wrong with a call that the library does not take."""
@@ -353,11 +361,11 @@ class Client(Operations):
         that its tables have no words for, as a key of EC."""
         if isinstance(call, Operation):
             return None
-        name, _, rest = call.partition(b' ')
         # What was to be wrapped is not given as anything else.
-        if name not in TREES or b' wrap=' in rest:
+        is_wrapped = any(word.startswith(b'wrap=') for word, _ in call.words[2:])
+        if call.name not in TREES or (call.name == b'get' and is_wrapped):
             return None
-        operation = Operation(TREES[name], b'1.2', NO_ITEMS)
+        operation = Operation(TREES[call.name], b'1.2', NO_ITEMS)
         status, line = self._library.answer(operation, response)
         if status != ANSWERED:
             return None
@@ -365,7 +373,7 @@ class Client(Operations):
             found = Item.of_json(json.loads(line)['answer']).text_at('UniqueIdentifier')
         except MissingValue:
             return None
-        if found.encode() != unquote_to_bytes(rest.split(b' ')[0]):
+        if found.encode() != call.words[1][0]:
             self._end(False)
             raise OtherObject('the response is about another object')
         return status, line
@@ -557,22 +565,21 @@ class Client(Operations):
     def _exchange(self, call: Call) -> Tuple[int, str, bytes]:
         """The status of a call, its line of JSON, and the response. Whatever goes wrong, a
         connection of which it is not known what comes next is closed."""
-        if self._wire is None and not self._reconnects:
-            raise RequestWriteError('the connection is closed; nothing was sent')
-        if isinstance(call, Operation):
+        if takes_id(call):
             call = call._replace(item_id=self._item_id())
         request = self._library.request(call, self._credential)
         if request == GRAMMAR:
             return CALL_GRAMMAR, '', b''
         if request == NO_FORM:
             raise SerializeError('request has no wire form')
+        if self._wire is None and not self._reconnects:
+            raise RequestWriteError('the connection is closed; nothing was sent')
         if not isinstance(request, bytes):
             self._end(False)
             return NO_MEMORY, '', b''
-        name = call.name if isinstance(call, Operation) else call.partition(b' ')[0]
-        with self._logged(name.decode()) as log:
+        with self._logged(call.name.decode()) as log:
             try:
-                response = self._response_again(request, name in CHANGELESS)
+                response = self._response_again(request, call.name in CHANGELESS)
                 status, line = self._library.answer(call, response)
             except BaseException:
                 self._end(False)

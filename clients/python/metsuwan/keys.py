@@ -53,7 +53,7 @@ def elements(der: bytes) -> Iterator[Tuple[int, bytes]]:
         der = der[at + length:]
 
 
-def _parts(der: bytes, *tags: int) -> List[bytes]:
+def _contents_of(der: bytes, *tags: int) -> List[bytes]:
     """The contents of elements that begin with these tags."""
     found = list(elements(der))
     if [tag for tag, _ in found[:len(tags)]] != list(tags):
@@ -76,31 +76,31 @@ def _of_algorithm(algorithm: bytes, key: bytes, is_private: bool) -> Tuple[str, 
     """The algorithm and the length of a key in X.509 or PKCS#8."""
     found = list(elements(algorithm))
     if found[0] == (OID, RSA):
-        return _of_rsa(_parts(key, SEQUENCE)[0], is_private)
+        return _of_rsa(_contents_of(key, SEQUENCE)[0], is_private)
     if found[0] == (OID, EC) and len(found) > 1 and found[1][0] == OID:
         return 'ECDSA', _curve_bits(found[1][1])
     if found[0] == (OID, DSA) and len(found) > 1 and found[1][0] == SEQUENCE:
-        return 'DSA', _bits(_parts(found[1][1], INTEGER)[0])
+        return 'DSA', _bits(_contents_of(found[1][1], INTEGER)[0])
     raise ValueError('another algorithm')
 
 
 def _of_rsa(contents: bytes, is_private: bool) -> Tuple[str, int]:
-    numbers = _parts(contents, INTEGER, INTEGER)
+    numbers = _contents_of(contents, INTEGER, INTEGER)
     return 'RSA', _bits(numbers[1 if is_private else 0])
 
 
 def _of_format(label: str, der: bytes) -> Tuple[str, int]:
     """The algorithm and the length of the key that a block of PEM with this label has."""
-    (whole,) = _parts(der, SEQUENCE)
+    (whole,) = _contents_of(der, SEQUENCE)
     if label == 'PUBLIC KEY':
-        algorithm, key = _parts(whole, SEQUENCE, BIT_STRING)
+        algorithm, key = _contents_of(whole, SEQUENCE, BIT_STRING)
         return _of_algorithm(algorithm, key[1:], False)
     if label == 'PRIVATE KEY':
-        _, algorithm, key = _parts(whole, INTEGER, SEQUENCE, OCTET_STRING)[:3]
+        _, algorithm, key = _contents_of(whole, INTEGER, SEQUENCE, OCTET_STRING)[:3]
         return _of_algorithm(algorithm, key, True)
     if label == 'EC PRIVATE KEY':
-        parameters = _parts(whole, INTEGER, OCTET_STRING, FIRST)[2]
-        return 'ECDSA', _curve_bits(_parts(parameters, OID)[0])
+        parameters = _contents_of(whole, INTEGER, OCTET_STRING, FIRST)[2]
+        return 'ECDSA', _curve_bits(_contents_of(parameters, OID)[0])
     return _of_rsa(whole, label == 'RSA PRIVATE KEY')
 
 
@@ -207,7 +207,7 @@ def pem_of_payload(payload: Item) -> str:
         found = _key(kind, form, payload.at(kind + '.KeyBlock.KeyValue.KeyMaterial'))
     if not found[0]:
         raise MissingValue('%s in %s has no PEM form' % (kind, form))
-    return pem.write(*found)
+    return pem.text_of(*found)
 
 
 def pem_of_parts(form: str, parts: Mapping[str, Any]) -> str:
@@ -221,7 +221,7 @@ def pem_of_parts(form: str, parts: Mapping[str, Any]) -> str:
     found = _transparent(form, Item('KeyMaterial', items))
     if found is None:
         raise MissingValue('%s has no PEM form' % form)
-    return pem.write(*found)
+    return pem.text_of(*found)
 
 
 def _key(kind: str, form: str, material: Item) -> Tuple[str, bytes]:

@@ -125,4 +125,4 @@ class ManagedObject:
         label = pem.label_of(self.object_type, format_name)
         if label is None:
             raise MissingValue('%s in %s has no PEM form' % (self.object_type, format_name))
-        return pem.write(label, self.certificate_value if certificate else self.key_material)
+        return pem.text_of(label, self.certificate_value if certificate else self.key_material)

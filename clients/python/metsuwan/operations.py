@@ -1,12 +1,13 @@
 """Calls of KMIP 1.2's operations that encrypt, verify and derive, by bytes and texts. They stand on
-``operation``: the requests are those of its items."""
+``call``, and `derive_key`, which takes more than the call of its name, on ``operation``."""
 from __future__ import annotations
 
-from typing import Any, List, NamedTuple, Optional, Sequence, Union
+from typing import Any, Dict, List, NamedTuple, Optional, Sequence, Union
 
-from .calls import Bytes, uses_of
+from .calls import Bytes, Option, Word, uses_of
 from .errors import MissingValue
 from .items import Item, attribute
+from .objects import bytes_at, text_at
 
 Names = Union[str, Sequence[str], None]
 VALIDITY = {'Valid': True, 'Invalid': False}
@@ -24,7 +25,7 @@ def parameters(**given: Optional[str]) -> List[Item]:
     """Cryptographic Parameters with these of their parts, in KMIP's order; none where none are
     given."""
     names = {'mode': 'BlockCipherMode', 'padding': 'PaddingMethod', 'hash': 'HashingAlgorithm',
-             'signature': 'DigitalSignatureAlgorithm', 'algorithm': 'CryptographicAlgorithm'}
+             'algorithm': 'CryptographicAlgorithm'}
     parts = []
     for name, tag in names.items():
         value = given.get(name)
@@ -69,18 +70,23 @@ def identifier_item(identifier: Any) -> Item:
 
 
 class Operations:
-    """The methods of a client that stand on ``operation``. Each is of KMIP 1.2 where nothing else
-    is said, and raises what every call does: ``ServerError`` where the server refuses, as for a key
-    that is not active or may not be used so; ``GrammarError`` for a name that KMIP has not."""
+    """The methods of a client that stand on ``call`` and ``operation``. Each is of KMIP 1.2 where
+    nothing else is said, and raises what every call does: ``ServerError`` where the server refuses,
+    as for a key that is not active or may not be used so; ``GrammarError`` for a name that KMIP has
+    not. The number of a name, as a vendor has one, is taken by ``operation`` alone."""
+
+    def call(self, name: str, /, *words: Word, **options: Option) -> Dict[str, Any]:
+        """Makes a call by its words."""
+        raise NotImplementedError
 
     def operation(self, name: str, payload: Any, *, version: str = '1.2') -> Item:
         """Makes a call of any operation."""
         raise NotImplementedError
 
-    def _about(self, identifier: str, name: str, items: Sequence[Item]) -> Item:
+    def _about(self, identifier: str, name: str, *words: Word, **options: Option) -> Dict[str, Any]:
         """Makes a call about this object. An answer about another one loses the connection."""
-        answer = self.operation(name, [identifier_item(identifier), *items])
-        if answer.text_at('UniqueIdentifier') != identifier:
+        answer = self.call(name, identifier, *words, **options)
+        if text_at(answer, 'unique_identifier') != identifier:
             self._is_other()
         return answer
 
@@ -93,33 +99,25 @@ class Operations:
         """Encrypts these bytes with this key. ``mode`` as ``CBC``, ``padding`` as ``PKCS5`` and
         ``algorithm`` as ``AES``; what is not given is as the key's attributes say, or as the server
         has it. KMIP 1.2."""
-        items = [*parameters(mode=mode, padding=padding, algorithm=algorithm),
-                 octets('Data', data)]
-        if iv is not None:
-            items.append(octets('IVCounterNonce', iv))
-        answer = self._about(identifier, 'Encrypt', items)
-        try:
-            made: Optional[bytes] = answer.bytes_at('IVCounterNonce')
-        except MissingValue:
-            made = None
-        return Encrypted(answer.bytes_at('Data'), made)
+        answer = self._about(identifier, 'encrypt', data, iv=iv, mode=mode, padding=padding,
+                             algorithm=algorithm)
+        made = bytes_at(answer, 'iv_counter_nonce') if 'iv_counter_nonce' in answer else None
+        return Encrypted(bytes_at(answer, 'data'), made)
 
     def decrypt(self, identifier: str, data: Bytes, *, iv: Optional[Bytes] = None,
                 mode: Optional[str] = None, padding: Optional[str] = None,
                 algorithm: Optional[str] = None) -> bytes:
         """Decrypts these bytes with this key, as ``encrypt`` has it. KMIP 1.2."""
-        items = [*parameters(mode=mode, padding=padding, algorithm=algorithm),
-                 octets('Data', data)]
-        if iv is not None:
-            items.append(octets('IVCounterNonce', iv))
-        return self._about(identifier, 'Decrypt', items).bytes_at('Data')
+        answer = self._about(identifier, 'decrypt', data, iv=iv, mode=mode, padding=padding,
+                             algorithm=algorithm)
+        return bytes_at(answer, 'data')
 
     def mac(self, identifier: str, data: Bytes, *, algorithm: Optional[str] = None,
             hash: Optional[str] = None) -> bytes:
         """The message authentication code of these bytes by this key. ``algorithm`` as
         ``HMAC_SHA256``, or what the key's attributes say. KMIP 1.2."""
-        items = [*parameters(hash=hash, algorithm=algorithm), octets('Data', data)]
-        return self._about(identifier, 'MAC', items).bytes_at('MACData')
+        answer = self._about(identifier, 'mac', data, hash=hash, algorithm=algorithm)
+        return bytes_at(answer, 'mac_data')
 
     def mac_verify(self, identifier: str, data: Bytes, mac: Bytes, *,
                    algorithm: Optional[str] = None, hash: Optional[str] = None) -> bool:
@@ -127,27 +125,26 @@ class Operations:
 
         :raises MissingValue: the server says neither that it is valid nor that it is not
         """
-        items = [*parameters(hash=hash, algorithm=algorithm), octets('Data', data),
-                 octets('MACData', mac)]
-        return self._is_valid(self._about(identifier, 'MACVerify', items))
+        return self._is_valid(self._about(identifier, 'mac-verify', data, mac, hash=hash,
+                                          algorithm=algorithm))
 
     def verify(self, identifier: str, data: Bytes, signature: Bytes, *,
                hash: Optional[str] = None, padding: Optional[str] = None,
                algorithm: Optional[str] = None, signature_algorithm: Optional[str] = None) -> bool:
         """Whether this is a signature of these bytes by the private key of this public one.
         ``hash`` as ``SHA256``, ``padding`` as ``PSS``, ``algorithm`` as ``RSA``; or together
-        ``signature_algorithm`` as ``SHA_256WithRSAEncryption``. KMIP 1.2, Signature Verify.
+        ``signature_algorithm`` as ``SHA_256WithRSAEncryptionPKCS_1V1_5``. KMIP 1.2, Signature
+        Verify.
 
         :raises MissingValue: the server says neither that it is valid nor that it is not
         """
-        items = [*parameters(hash=hash, padding=padding, algorithm=algorithm,
-                             signature=signature_algorithm),
-                 octets('Data', data), octets('SignatureData', signature)]
-        return self._is_valid(self._about(identifier, 'SignatureVerify', items))
+        return self._is_valid(self._about(
+            identifier, 'verify', data, signature, hash=hash, padding=padding,
+            algorithm=algorithm, signature_algorithm=signature_algorithm))
 
     @staticmethod
-    def _is_valid(answer: Item) -> bool:
-        name = answer.name_at('ValidityIndicator')
+    def _is_valid(answer: Dict[str, Any]) -> bool:
+        name = text_at(answer, 'validity_indicator')
         if name not in VALIDITY:
             raise MissingValue('the server does not say whether it is valid: ' + name)
         return VALIDITY[name]
@@ -183,4 +180,4 @@ class Operations:
     def rekey(self, identifier: str) -> str:
         """Makes a new symmetric key in the place of this one, with its name and its attributes, and
         returns the identifier of the new one. KMIP 1.0."""
-        return self.operation('Rekey', [identifier_item(identifier)]).text_at('UniqueIdentifier')
+        return text_at(self.call('rekey', identifier), 'unique_identifier')

@@ -26,7 +26,7 @@ def label_of(object_type: str, format_name: str) -> Optional[str]:
     return LABELS.get((object_type, format_name))
 
 
-def write(label: str, der: bytes) -> str:
+def text_of(label: str, der: bytes) -> str:
     """The text of these bytes under a label."""
     text = base64.b64encode(der).decode()
     lines = [text[at:at + 64] for at in range(0, len(text), 64)]

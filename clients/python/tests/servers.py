@@ -1,14 +1,18 @@
 """The fake servers, and a client of one of them."""
 import atexit
+import contextlib
 import os
 import pathlib
 import subprocess
 import sys
 import tempfile
-from typing import Any, Dict, Iterator, Optional, Tuple
+from typing import Any, Dict, Iterator, List, Optional, Tuple
+from unittest import mock
 
 from metsuwan import Client
 from metsuwan.wire import Port
+
+from .messages import response
 
 LIVE = pathlib.Path(__file__).resolve().parents[3] / 'tools' / 'live'
 
@@ -53,3 +57,28 @@ def client_of(fake: str, *, name: str = 'client', host: str = 'localhost',
     cert, key = ('%s/%s.%s' % (CERTS, name, end) for end in ('pem', 'key'))
     return Client(host, port or PORTS[fake], cert=cert, key=key, ca=CERTS + '/ca.pem',
                   timeout=timeout, **settings)
+
+
+def new_user() -> str:
+    """A user that no fake has seen, also where these tests are run again."""
+    return 'user %s' % os.urandom(8).hex()
+
+
+# The Unique Batch Item ID of each request in what follows.
+ID = b'12345678'
+
+
+@contextlib.contextmanager
+def answered(operation: int, *payload: bytes,
+             status: int = 0) -> Iterator[Tuple[Client, List[bytes]]]:
+    """A client whose requests go nowhere, and are answered by a response of this operation with
+    these items; and the requests."""
+    asked: List[bytes] = []
+
+    def respond(_: Client, __: object, request: bytes) -> bytes:
+        asked.append(request)
+        return response(operation, *payload, item_id=ID, status=status)
+
+    with client_of('good') as kmip, mock.patch('os.urandom', return_value=ID):
+        with mock.patch.object(Client, '_response', respond):
+            yield kmip, asked

@@ -5,9 +5,9 @@ from typing import Any, Dict, List, Tuple, Union
 from unittest import mock
 
 from metsuwan import Client, GrammarError, Item
-from metsuwan.calls import USES, line_of, uses_of
+from metsuwan.calls import USES, call_of, uses_of
 from metsuwan.library import Library
-from metsuwan.pem import certificate_der, write
+from metsuwan.pem import certificate_der, text_of
 
 from .servers import CERTS, client_of
 
@@ -23,7 +23,7 @@ DER = object_of('Certificate.X509')
 
 class Given(unittest.TestCase):
     def test_der_and_pem(self) -> None:
-        pem = write('CERTIFICATE', DER)
+        pem = text_of('CERTIFICATE', DER)
         around = '0: \u00e9\r\n' + pem.replace('\n', '\r\n') + 'after'
         givens: List[Union[str, bytes, bytearray, memoryview]] = [
             DER, bytearray(DER), memoryview(DER), pem, pem.encode(), around, around.encode()]
@@ -43,7 +43,7 @@ class Given(unittest.TestCase):
                                 'PublicKey.PKCS1', 'PublicKey.X509'))
         with client_of('good') as kmip:
             for der in ders:
-                givens: List[Union[str, bytes]] = [der, write('CERTIFICATE', der)]
+                givens: List[Union[str, bytes]] = [der, text_of('CERTIFICATE', der)]
                 for given in givens:
                     with self.subTest(given), self.assertRaises(GrammarError) as raised:
                         kmip.register_certificate(given)
@@ -51,19 +51,19 @@ class Given(unittest.TestCase):
                                   str(raised.exception))
 
     def test_what_is_none(self) -> None:
-        one = write('CERTIFICATE', b'\x30\x00')
+        one = text_of('CERTIFICATE', b'\x30\x00')
         torn = 'is not one whole structure of DER'
         rows: List[Tuple[Union[str, bytes], str]] = [
             (b'', 'is neither DER nor PEM'), ('x', 'is neither DER nor PEM'),
             (b'\xff', 'is neither DER nor PEM'),
-            (write('PRIVATE KEY', b'\x30\x00'), 'is neither DER nor PEM'),
+            (text_of('PRIVATE KEY', b'\x30\x00'), 'is neither DER nor PEM'),
             (one * 2, 'is several in one PEM, and one at a time is registered'),
             (one[:40], 'has no end in its PEM'),
             (one.replace('MAA', 'MA*'), 'is not base64 in its PEM'),
             (one.replace('MAA=', 'MAA'), 'is not base64 in its PEM'),
         ]
         for der in (b'\x30', b'\x30\x01', b'\x30\x00\x00', b'\x30\x80\x00\x00'):
-            rows += [(der, torn), (write('CERTIFICATE', der), torn + ' in its PEM')]
+            rows += [(der, torn), (text_of('CERTIFICATE', der), torn + ' in its PEM')]
         for given, why in rows:
             with self.subTest(given), self.assertRaises(GrammarError) as raised:
                 certificate_der(given)
@@ -132,8 +132,7 @@ class Registered(unittest.TestCase):
         self.assertEqual(len(USES), 20)
         for name in USES:
             with self.subTest(name):
-                line = line_of('create', ['AES', 256, 'n'], {'usage': name})
-                request = Library().request(line)
+                request = Library().request(call_of('create', ['AES', 256, 'n'], {'usage': name}))
                 assert isinstance(request, bytes)
                 item = bytes.fromhex('42000B0200000004') + uses_of(name).to_bytes(4, 'big')
                 self.assertIn(item, request)

@@ -7,7 +7,7 @@ from typing import Any, Dict, List
 from metsuwan import Client, ConnectionLost, Item, Pool, ResponseReadError
 from metsuwan.errors import RequestWriteError
 
-from .servers import CERTS, PORTS, client_of
+from .servers import CERTS, PORTS, client_of, new_user
 
 
 def came(kmip: Client) -> str:
@@ -28,20 +28,20 @@ class Reconnect(unittest.TestCase):
                 kmip.activate('k')
 
     def test_what_changes_nothing_is_made_again(self) -> None:
-        with client_of('first_lost', user='changeless', password='', reconnect=True) as kmip:
+        with client_of('first_lost', user=new_user(), password='', reconnect=True) as kmip:
             self.assertEqual(kmip.sign('k', b'x').signature_data, b'signature by k')
             self.assertEqual(came(kmip), '3')
-        with client_of('first_lost', user='by operation', password='', reconnect=True) as kmip:
+        with client_of('first_lost', user=new_user(), password='', reconnect=True) as kmip:
             kmip.operation('MAC', [Item('UniqueIdentifier', 'k')])
             self.assertEqual(came(kmip), '3')
 
     def test_what_may_have_been_done_is_not(self) -> None:
-        with client_of('first_lost', user='changing', password='', reconnect=True) as kmip:
+        with client_of('first_lost', user=new_user(), password='', reconnect=True) as kmip:
             with self.assertRaises(ResponseReadError):
                 kmip.activate('k')
             self.assertTrue(kmip.is_open)
             self.assertEqual(came(kmip), '2')
-        with client_of('first_lost', user='archive', password='', reconnect=True) as kmip:
+        with client_of('first_lost', user=new_user(), password='', reconnect=True) as kmip:
             with self.assertRaises(ResponseReadError):
                 kmip.operation('Archive', [Item('UniqueIdentifier', 'k')])
             self.assertEqual(came(kmip), '2')

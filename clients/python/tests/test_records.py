@@ -5,6 +5,7 @@ import unittest
 from typing import Any, List
 
 from metsuwan import GrammarError, Item, NotRecorded, ResponseReadError, ServerError
+from metsuwan.calls import words_of
 from metsuwan.library import ANSWERED, Library
 
 from .servers import client_of
@@ -38,7 +39,7 @@ class Records(unittest.TestCase):
         """A client of this request, over this response, is answered."""
         kind, request, response = words
         self.assertEqual(kind, 'raw')
-        status, _ = Library().answer(b'raw ' + request.encode(), bytes.fromhex(response))
+        status, _ = Library().answer(words_of(['raw', request]), bytes.fromhex(response))
         self.assertEqual(status, ANSWERED)
 
     def test_a_call_of_words(self) -> None:

@@ -2,18 +2,23 @@
 import contextlib
 import ctypes.util
 import os
+import shutil
 import signal
 import socket
 import ssl
+import subprocess
+import tempfile
 import threading
 import time
 import unittest
 from typing import Any, Dict, Iterator, List, Tuple
 from unittest import mock
 
+import metsuwan
 from metsuwan import (Client, ConnectError, ConnectionLost, DeserializeError, ItemNotFound,
                       KmipError, LibraryError, MissingValue, OtherObject, Refused,
                       RequestWriteError, ResponseReadError)
+from metsuwan.library import Library
 from metsuwan.wire import Wire
 
 from .servers import CERTS, PORTS, client_of
@@ -347,6 +352,27 @@ class Opening(unittest.TestCase):
             with self.subTest(path), self.assertRaisesRegex(LibraryError, text) as raised:
                 client_of('good', library=path)
             self.assertIsInstance(raised.exception, KmipError)
+
+    @unittest.skipUnless(shutil.which('gcc'), 'there is no gcc')
+    def test_a_library_of_another_version(self) -> None:
+        # None of its calls is made: they take other arguments.
+        code = ('#include <stdlib.h>\nconst char *kmip_version(void) { return "%s"; }\n'
+                'void kmip_request(void) { abort(); }\n')
+        for version, text in (('1.0, proved', 'is libmetsuwan 1.0, proved, .* wants version 2$'),
+                              ('20.0, proved', 'is libmetsuwan 20.0, proved, '),
+                              ('2.9, proved', 'another version of it: .* undefined symbol')):
+            with self.subTest(version), tempfile.TemporaryDirectory() as folder:
+                path = folder + '/lib.so'
+                subprocess.run(['gcc', '-shared', '-fPIC', '-x', 'c', '-', '-o', path], check=True,
+                               input=(code % version).encode())
+                with self.assertRaisesRegex(LibraryError, text):
+                    Library(path)
+                with mock.patch.dict(os.environ, LIBMETSUWAN=path):
+                    with self.assertRaisesRegex(LibraryError, text):
+                        client_of('good')
+
+    def test_the_library_has_the_version_of_the_package(self) -> None:
+        self.assertEqual(Library().version().partition(',')[0], metsuwan.__version__)
 
     def test_names_are_whole_and_alternative(self) -> None:
         here = socket.getaddrinfo('127.0.0.1', PORTS['wildcard'], type=socket.SOCK_STREAM)

@@ -24,7 +24,7 @@ use std::process::ExitCode;
 use std::time::Duration;
 
 fn no_setting(text: &str) -> Failure {
-    Failure(settings::line("ConfigurationError", text), 2)
+    Failure(settings::error_line("ConfigurationError", text), 2)
 }
 
 /// A variable of the environment, where it is set and not empty.
@@ -130,7 +130,7 @@ fn main() -> ExitCode {
                 return ExitCode::SUCCESS;
             };
             let why = format!("the answer cannot be written: {error}");
-            settings::say(&settings::line("NotWritten", &why));
+            settings::say(&settings::error_line("NotWritten", &why));
             ExitCode::from(4)
         }
         Err(Failure(line, status)) => {

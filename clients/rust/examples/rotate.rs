@@ -43,7 +43,7 @@ fn main() -> ExitCode {
                 return ExitCode::SUCCESS;
             }
             let why = "locate finds the new private key by its name";
-            settings::say(&settings::line("NotWritten", why));
+            settings::say(&settings::error_line("NotWritten", why));
             ExitCode::from(4)
         }
         Err(Failure(line, status)) => {

@@ -1,11 +1,11 @@
 //! Several calls in one message. Each item of a batch is that of the request of a single call, and
 //! each item of the response is read as the response to a single call: so nothing of either is new.
 use crate::answer::Answer;
-use crate::client::{refuse_pem, Asked, Client, Options};
+use crate::client::{Asked, Client, Options};
 use crate::error::{Error, Result};
 use crate::item::Item;
 use crate::library::Operation;
-use crate::word::{self, Word};
+use crate::word::{with_options, Word, Words};
 use std::fmt::{self, Debug, Formatter};
 use std::io::{Read, Write};
 
@@ -42,14 +42,14 @@ pub enum BatchErrorContinuationOption {
 
 /// A call that a batch keeps.
 enum Call {
-    Line(String),
+    Words(Words),
     Operation { name: String, version: String, payload: String },
 }
 
 impl Call {
     fn asked(&self) -> Asked<'_> {
         match self {
-            Call::Line(line) => Asked::Line(line),
+            Call::Words(words) => Asked::Words(words, &[]),
             Call::Operation { name, version, payload } => {
                 Asked::Operation(Operation::new(name, version, payload))
             }
@@ -116,7 +116,7 @@ impl<'a, T: Read + Write> Batch<'a, T> {
     /// `GrammarError`, `SerializeError`: it is none, or its request has no wire form; the batch is
     /// as it was.
     pub fn call(&mut self, name: &str, words: &[Word<'_>]) -> Result<&mut Self> {
-        self.add_line(word::line(name, words)?)
+        self.add(Call::Words(Words::new(name, words)?))
     }
 
     /// The same with options by their names, as [`Client::call_with`].
@@ -126,13 +126,12 @@ impl<'a, T: Read + Write> Batch<'a, T> {
         words: &[Word<'_>],
         options: Options<'_>,
     ) -> Result<&mut Self> {
-        let options = options.iter().map(|(option, value)| Word::Option(option, value));
-        self.call(name, &words.iter().copied().chain(options).collect::<Vec<_>>())
+        self.call(name, &with_options(words, options.iter().copied()))
     }
 
     /// The same with words that were typed, as [`Client::call_texts`].
     pub fn call_texts(&mut self, name: &str, texts: &[&str]) -> Result<&mut Self> {
-        self.add_line(word::line_of_texts(name, texts)?)
+        self.add(Call::Words(Words::of_texts(name, texts)?))
     }
 
     /// Adds a call of any operation, as [`Client::do_operation`]; its answer has the response's
@@ -151,11 +150,6 @@ impl<'a, T: Read + Write> Batch<'a, T> {
     pub fn operation(&mut self, name: &str, version: &str, payload: &str) -> Result<&mut Self> {
         let (name, version, payload) = (name.into(), version.into(), payload.into());
         self.add(Call::Operation { name, version, payload })
-    }
-
-    fn add_line(&mut self, line: String) -> Result<&mut Self> {
-        refuse_pem(&line)?;
-        self.add(Call::Line(line))
     }
 
     fn add(&mut self, call: Call) -> Result<&mut Self> {

@@ -3,12 +3,11 @@ use crate::answer::Answer;
 use crate::batch::{Batch, Ids};
 use crate::error::{Error, Result};
 use crate::item::Item;
-use crate::keys;
 use crate::library::{self, BadHead, NoRequest, Operation, Status, NO_ITEMS};
 use crate::log::{Begun, Event, EventKind, Log};
 use crate::options::Given;
 use crate::record::{self, Record};
-use crate::word::{self, Word};
+use crate::word::{with_options, Word, Words};
 use std::fmt::{self, Debug, Formatter};
 use std::io::{self, ErrorKind, Read, Write};
 use std::sync::{Mutex, MutexGuard, PoisonError};
@@ -24,13 +23,22 @@ type Reopen<T> = Box<dyn FnMut() -> Result<T> + Send>;
 type Random = fn(&mut [u8]) -> io::Result<()>;
 
 /// The calls that change nothing on the server: they may be made twice.
-const CHANGELESS: [&str; 20] = [
+const CHANGELESS: [&str; 30] = [
     "query",
     "discover",
     "locate",
     "get",
     "attributes",
     "sign",
+    "encrypt",
+    "decrypt",
+    "mac",
+    "mac-verify",
+    "verify",
+    "hash",
+    "check",
+    "attribute-list",
+    "validate",
     "Query",
     "DiscoverVersions",
     "Locate",
@@ -45,6 +53,7 @@ const CHANGELESS: [&str; 20] = [
     "MACVerify",
     "Hash",
     "Check",
+    "Validate",
 ];
 
 /// A user and a password.
@@ -105,8 +114,9 @@ impl<T: Read + Write> ClientBuilder<T> {
     /// A stream that is lost is opened again by this for the next call, with the error of that call
     /// where it is not. A call itself is made again, once, where nothing of it was sent, or where it
     /// changes nothing, and not where its time was over: `query`, `discover`, `locate`, `get`,
-    /// `attributes` and `sign`, and of the operations `Encrypt`, `Decrypt`, `MAC`,
-    /// `SignatureVerify` and the like. [`with_log`](Self::with_log) is told of it.
+    /// `attributes`, `attribute-list`, `sign`, `encrypt`, `decrypt`, `mac`, `mac-verify`, `verify`,
+    /// `hash`, `check` and `validate`, and of the operations `Encrypt` and the like.
+    /// [`with_log`](Self::with_log) is told of it.
     pub fn with_reconnect(self, reopen: impl FnMut() -> Result<T> + Send + 'static) -> Self {
         ClientBuilder { reopen: Some(Box::new(reopen)), ..self }
     }
@@ -194,9 +204,28 @@ impl<T> Debug for Client<T> {
 }
 
 impl<T: Read + Write> Client<T> {
-    /// Makes any call of the grammar: its name, and the words after it.
+    /// Makes any call: its name, and the words after it. `metsuwan.h` and `kmip_call --operations`
+    /// have all of them.
+    ///
+    /// The request of a call of a further operation, as `encrypt`, has eight random bytes as its
+    /// Unique Batch Item ID. An answer with another one, or with none, is that of another call. The
+    /// names of its values are those of KMIP's tags, as `data` and `unique_identifier`; where several
+    /// items have one tag, the value is their list.
+    ///
+    /// # Errors
+    /// - `GrammarError`: the words are none of a call, as bytes where it has an identifier
+    /// - `OtherObject`: the answer is that of another call
+    /// - those of every call
+    ///
+    /// ```no_run
+    /// # use metsuwan::{Client, Result, Word};
+    /// # fn example<T: std::io::Read + std::io::Write>(client: &Client<T>) -> Result<Vec<u8>> {
+    /// let words = [Word::Text("5"), Word::Bytes(b"hello"), Word::Option("mode", "ECB")];
+    /// client.call("encrypt", &words)?.bytes_at("data")
+    /// # }
+    /// ```
     pub fn call(&self, name: &str, words: &[Word<'_>]) -> Result<Answer> {
-        self.call_line(&word::line(name, words)?)
+        self.call_words(&Words::new(name, words)?)
     }
 
     /// The same with options by their names, which stand after the other words.
@@ -206,8 +235,7 @@ impl<T: Read + Write> Client<T> {
         words: &[Word<'_>],
         options: Options<'_>,
     ) -> Result<Answer> {
-        let options = options.iter().map(|(option, value)| Word::Option(option, value));
-        self.call(name, &words.iter().copied().chain(options).collect::<Vec<_>>())
+        self.call(name, &with_options(words, options.iter().copied()))
     }
 
     /// The same with options by their types.
@@ -217,13 +245,13 @@ impl<T: Read + Write> Client<T> {
         words: &[Word<'_>],
         options: &Given<'_>,
     ) -> Result<Answer> {
-        let options = options.iter().map(|(option, value)| Word::Option(option, value));
-        self.call(name, &words.iter().copied().chain(options).collect::<Vec<_>>())
+        self.call(name, &with_options(words, options.iter().map(|(name, value)| (*name, &**value))))
     }
 
-    /// The same with words that were typed: numbers in decimal digits, bytes in hex digits.
+    /// The same with words that were typed: numbers in decimal digits, bytes in hex digits, options
+    /// as `hash=SHA384`.
     pub fn call_texts(&self, name: &str, texts: &[&str]) -> Result<Answer> {
-        self.call_line(&word::line_of_texts(name, texts)?)
+        self.call_words(&Words::of_texts(name, texts)?)
     }
 
     /// Makes a call of any operation of KMIP 1.0 to 1.2 by its name, as `Encrypt`, with this version,
@@ -263,9 +291,8 @@ impl<T: Read + Write> Client<T> {
         wire.stream.filter(|_| !wire.is_busy)
     }
 
-    fn call_line(&self, line: &str) -> Result<Answer> {
-        refuse_pem(line)?;
-        self.make(Asked::Line(line))
+    fn call_words(&self, words: &Words) -> Result<Answer> {
+        self.make(Asked::Words(words, &[]))
     }
 
     fn make(&self, asked: Asked<'_>) -> Result<Answer> {
@@ -471,31 +498,23 @@ fn answer_of_batch((call, response): (&Asked<'_>, Option<Vec<u8>>)) -> Result<An
     call.read(response.ok_or_else(Error::not_done)?)
 }
 
-/// PEM is not registered as the bytes of a key.
-pub(crate) fn refuse_pem(line: &str) -> Result<()> {
-    if line.starts_with("register ") && line.split(' ').any(keys::is_pem) {
-        let text = "register: the key is PEM, which would be kept as its bytes: \
-                    register_private_key and register_public_key take it";
-        return Err(Error::grammar(text));
-    }
-    Ok(())
-}
-
 /// A call, as the library takes it.
 #[derive(Clone, Copy)]
 pub(crate) enum Asked<'a> {
-    /// A line of words.
-    Line(&'a str),
+    /// Words, and the Unique Batch Item ID of the request, where that has one.
+    Words(&'a Words, &'a [u8]),
     /// Any operation.
     Operation(Operation<'a>),
 }
 
 impl<'a> Asked<'a> {
-    /// The same call: an operation with a Unique Batch Item ID, which no answer to another call has.
+    /// The same call with a Unique Batch Item ID that no answer to another call has.
     fn identified(self, item_id: &'a mut [u8], random: Random) -> Result<Self> {
-        let Asked::Operation(call) = self else { return Ok(self) };
         random(item_id).map_err(Error::no_random)?;
-        Ok(Asked::Operation(call.with_item_id(item_id)))
+        Ok(match self {
+            Asked::Words(words, _) => Asked::Words(words, item_id),
+            Asked::Operation(call) => Asked::Operation(call.with_item_id(item_id)),
+        })
     }
 }
 
@@ -503,7 +522,7 @@ impl Asked<'_> {
     /// The request, or the error of a call that is none.
     pub(crate) fn request(&self, credential: Option<(&str, &str)>) -> Result<Vec<u8>> {
         let request = match self {
-            Asked::Line(line) => library::request(line, credential),
+            Asked::Words(words, item_id) => library::request(&words.given(), item_id, credential),
             Asked::Operation(call) => library::operation_request(call, credential),
         };
         request.map_err(|reason| match reason {
@@ -516,7 +535,7 @@ impl Asked<'_> {
     /// The name of the call.
     fn name(&self) -> &str {
         match self {
-            Asked::Line(line) => line.split(' ').next().unwrap_or(""),
+            Asked::Words(words, _) => words.texts().next().unwrap_or(""),
             Asked::Operation(call) => call.name,
         }
     }
@@ -527,7 +546,7 @@ impl Asked<'_> {
 
     fn answer(&self, response: &[u8]) -> (Status, String) {
         match self {
-            Asked::Line(line) => library::answer(line, response),
+            Asked::Words(words, item_id) => library::answer(&words.given(), item_id, response),
             Asked::Operation(call) => library::operation_answer(call, response),
         }
     }
@@ -535,7 +554,7 @@ impl Asked<'_> {
     /// The error of a call that is none.
     fn grammar(&self) -> Error {
         let said = match self {
-            Asked::Line(line) => library::refusal(line),
+            Asked::Words(words, _) => library::refusal(&words.given()),
             Asked::Operation(call) => library::operation_refusal(call),
         };
         Error::grammar(said.unwrap_or_else(|| "the call is none".into()))
@@ -588,17 +607,18 @@ fn exchange<T: Read + Write>(stream: &mut T, request: &[u8], limit: u32) -> Resu
 /// After a refusal: what the tables of a call have no words for, as a key of EC, is answered as the
 /// operation of the call has it, where the same bytes are a success of that.
 fn as_tree(asked: Asked<'_>, response: Vec<u8>, refusal: Error) -> Result<Answer> {
-    let Asked::Line(line) = asked else { return Err(refusal) };
-    // What was to be wrapped is not given as anything else.
-    if line.contains(" wrap=") {
-        return Err(refusal);
-    }
-    let mut words = line.split(' ');
-    let name = match words.next() {
+    let Asked::Words(words, _) = asked else { return Err(refusal) };
+    let mut texts = words.texts();
+    let name = match texts.next() {
         Some("get") => "Get",
         Some("attributes") => "GetAttributes",
         _ => return Err(refusal),
     };
+    let identifier = texts.next();
+    // What was to be wrapped is not given as anything else.
+    if texts.any(|text| text.starts_with("wrap=")) {
+        return Err(refusal);
+    }
     let call = Operation::new(name, "1.2", NO_ITEMS);
     let (Status::Answered, line) = library::operation_answer(&call, &response) else {
         return Err(refusal);
@@ -606,22 +626,10 @@ fn as_tree(asked: Asked<'_>, response: Vec<u8>, refusal: Error) -> Result<Answer
     let Some(answer) = Answer::of_line(line, response) else { return Err(refusal) };
     let Some(tree) = answer.tree() else { return Err(refusal) };
     match tree.text_at("UniqueIdentifier") {
-        Ok(found) if found.as_bytes() == text_of(words.next().unwrap_or("")) => Ok(answer),
+        Ok(found) if identifier == Some(found) => Ok(answer),
         Ok(_) => Err(Error::other_object("the response is about another object")),
         Err(_) => Err(refusal),
     }
-}
-
-/// The text that a word of a call stands for: of a byte that is special it has `%` and two digits.
-fn text_of(word: &str) -> Vec<u8> {
-    let mut parts = word.split('%');
-    let mut made = parts.next().unwrap_or("").as_bytes().to_vec();
-    for part in parts {
-        let byte = part.get(..2).and_then(|digits| u8::from_str_radix(digits, 16).ok());
-        made.extend(byte);
-        made.extend(part.get(2..).unwrap_or("").bytes());
-    }
-    made
 }
 
 /// Reads as many bytes as there is room for.
@@ -678,6 +686,8 @@ mod tests {
     #[test]
     fn without_random_bytes_nothing_is_sent() {
         without_random_bytes(|client| client.operation("Encrypt", "1.2", NO_ITEMS).unwrap_err());
+        let words = [Word::Text("5"), Word::Bytes(b"hello")];
+        without_random_bytes(|client| client.call("encrypt", &words).unwrap_err());
         without_random_bytes(|client| {
             client.batch().call("query", &[]).unwrap().send().unwrap_err()
         });

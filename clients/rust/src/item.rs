@@ -1,6 +1,6 @@
 //! Items of messages: what requests and responses of any operation are made of.
 use crate::error::{Error, Result};
-use crate::json::{bytes_of, Json};
+use crate::json::{bytes_of_hex, Json};
 use crate::names::CryptographicUsageMask;
 use std::fmt::{self, Debug, Formatter};
 
@@ -281,7 +281,7 @@ impl Value {
                 None => i32::try_from(json.as_number()?).ok()?,
             }),
             "LongInteger" => Value::LongInteger(json.as_number().or_else(|| hex_number(json))?),
-            "BigInteger" => Value::BigInteger(bytes_of(json.as_text()?.strip_prefix("0x")?)?),
+            "BigInteger" => Value::BigInteger(bytes_of_hex(json.as_text()?.strip_prefix("0x")?)?),
             "Enumeration" => Value::Enumeration(text()?),
             "Boolean" => match json {
                 Json::Bool(is_so) => Value::Boolean(*is_so),

@@ -162,16 +162,16 @@ impl Json {
 
     /// The bytes that stand there in hex.
     pub fn as_bytes(&self) -> Option<Vec<u8>> {
-        bytes_of(self.as_text()?)
+        bytes_of_hex(self.as_text()?)
     }
 }
 
 /// The bytes that hex digits stand for.
-pub(crate) fn bytes_of(hex: &str) -> Option<Vec<u8>> {
-    let digit = |byte: u8| char::from(byte).to_digit(16).and_then(|byte| u8::try_from(byte).ok());
+pub(crate) fn bytes_of_hex(hex: &str) -> Option<Vec<u8>> {
+    let nibble = |byte: u8| char::from(byte).to_digit(16).and_then(|byte| u8::try_from(byte).ok());
     let digits = hex.as_bytes();
     (digits.len() % 2 == 0).then(|| {
-        digits.chunks(2).map(|pair| Some(digit(pair[0])? << 4 | digit(pair[1])?)).collect()
+        digits.chunks(2).map(|pair| Some(nibble(pair[0])? << 4 | nibble(pair[1])?)).collect()
     })?
 }
 

@@ -57,7 +57,7 @@ const FORMATS: [(&str, &str, &str); 5] = [
 ];
 
 /// The contents of elements that begin with these tags.
-fn parts<const N: usize>(mut der: &[u8], tags: [u8; N]) -> Option<[&[u8]; N]> {
+fn elements<const N: usize>(mut der: &[u8], tags: [u8; N]) -> Option<[&[u8]; N]> {
     let mut found = [&der[..0]; N];
     for (into, wanted) in found.iter_mut().zip(tags) {
         let (tag, contents, rest) = element(der)?;
@@ -89,7 +89,7 @@ fn curve_bits(identifier: &[u8]) -> Option<i32> {
 type Known = (&'static str, i32);
 
 fn of_rsa(contents: &[u8], is_private: bool) -> Option<Known> {
-    let [first, second] = parts(contents, [INTEGER, INTEGER])?;
+    let [first, second] = elements(contents, [INTEGER, INTEGER])?;
     Some(("RSA", bits(if is_private { second } else { first })?))
 }
 
@@ -98,9 +98,9 @@ fn of_algorithm(algorithm: &[u8], key: &[u8], is_private: bool) -> Option<Known>
     let (tag, identifier, parameters) = element(algorithm)?;
     match identifier {
         _ if tag != IDENTIFIER => None,
-        RSA => of_rsa(parts(key, [SEQUENCE])?[0], is_private),
-        EC => Some(("ECDSA", curve_bits(parts(parameters, [IDENTIFIER])?[0])?)),
-        DSA => Some(("DSA", bits(parts(parts(parameters, [SEQUENCE])?[0], [INTEGER])?[0])?)),
+        RSA => of_rsa(elements(key, [SEQUENCE])?[0], is_private),
+        EC => Some(("ECDSA", curve_bits(elements(parameters, [IDENTIFIER])?[0])?)),
+        DSA => Some(("DSA", bits(elements(elements(parameters, [SEQUENCE])?[0], [INTEGER])?[0])?)),
         _ => None,
     }
 }
@@ -110,16 +110,16 @@ fn of_format(label: &str, der: &[u8]) -> Option<Known> {
     let (SEQUENCE, whole, []) = element(der)? else { return None };
     match label {
         "PUBLIC KEY" => {
-            let [algorithm, key] = parts(whole, [SEQUENCE, BIT_STRING])?;
+            let [algorithm, key] = elements(whole, [SEQUENCE, BIT_STRING])?;
             of_algorithm(algorithm, key.get(1..)?, false)
         }
         "PRIVATE KEY" => {
-            let [_, algorithm, key] = parts(whole, [INTEGER, SEQUENCE, OCTET_STRING])?;
+            let [_, algorithm, key] = elements(whole, [INTEGER, SEQUENCE, OCTET_STRING])?;
             of_algorithm(algorithm, key, true)
         }
         "EC PRIVATE KEY" => {
-            let [_, _, parameters] = parts(whole, [INTEGER, OCTET_STRING, FIRST])?;
-            Some(("ECDSA", curve_bits(parts(parameters, [IDENTIFIER])?[0])?))
+            let [_, _, parameters] = elements(whole, [INTEGER, OCTET_STRING, FIRST])?;
+            Some(("ECDSA", curve_bits(elements(parameters, [IDENTIFIER])?[0])?))
         }
         _ => of_rsa(whole, label == "RSA PRIVATE KEY"),
     }
@@ -140,9 +140,9 @@ fn blocks(mut text: &str) -> Vec<(&str, &str)> {
     found
 }
 
-/// Whether bytes begin as a text of PEM does, as hex digits.
-pub(crate) fn is_pem(digits: &str) -> bool {
-    digits.get(..22).is_some_and(|head| head.eq_ignore_ascii_case("2D2D2D2D2D424547494E20"))
+/// Whether bytes begin as a text of PEM does.
+pub(crate) fn is_pem(bytes: &[u8]) -> bool {
+    bytes.starts_with(b"-----BEGIN ")
 }
 
 /// The key block of the key of this kind that a text of PEM holds, and nothing else.
@@ -160,7 +160,7 @@ pub(crate) fn block_of_pem(text: &[u8], kind: &str) -> Result<Item> {
     let format = FORMATS.iter().find(|row| row.0 == label && row.1 == kind);
     let (_, _, format) =
         format.ok_or_else(|| Error::grammar(format!("the PEM has no {kind}: it is a {label}")))?;
-    let der = pem::bytes_of(body).ok_or_else(|| Error::grammar("the key is not base64"))?;
+    let der = pem::bytes_of_base64(body).ok_or_else(|| Error::grammar("the key is not base64"))?;
     let none = "the key is no DER of its kind, or KMIP 1.2 has no name for its algorithm or curve";
     let (algorithm, length) = of_format(label, &der).ok_or_else(|| Error::grammar(none))?;
     let known = vec![
@@ -263,7 +263,8 @@ pub(crate) fn pem_of_payload(payload: &Item) -> Result<String> {
         let format = name_at(&at("CertificateType"))?;
         let label = pem::label_of(kind, &format);
         let none = || Error::missing(format!("{kind} in {format} has no PEM form"));
-        return Ok(pem::write(label.ok_or_else(none)?, payload.bytes_at(&at("CertificateValue"))?));
+        let der = payload.bytes_at(&at("CertificateValue"))?;
+        return Ok(pem::text_of(label.ok_or_else(none)?, der));
     }
     let format = name_at(&at("KeyBlock.KeyFormatType"))?;
     let material = payload.item_at(&at("KeyBlock.KeyValue.KeyMaterial"))?;
@@ -271,5 +272,5 @@ pub(crate) fn pem_of_payload(payload: &Item) -> Result<String> {
         (Value::ByteString(der), Some(label)) => (label, der.clone()),
         _ => of_parts(&format, material)?,
     };
-    Ok(pem::write(label, &der))
+    Ok(pem::text_of(label, &der))
 }

@@ -2,13 +2,16 @@
 //! does.
 use std::fmt::{self, Debug, Formatter};
 use std::io::{self, ErrorKind};
+use std::marker::PhantomData;
 
 extern "C" {
     // That of the system's library, on which std stands too.
     fn getrandom(into: *mut u8, count: usize, flags: u32) -> isize;
     fn kmip_request(
-        call: *const u8,
-        call_len: usize,
+        words: *const KmipWord<'_>,
+        count: usize,
+        id: *const u8,
+        id_len: usize,
         has_credential: bool,
         user: *const u8,
         user_len: usize,
@@ -17,11 +20,13 @@ extern "C" {
         into: *mut u8,
         room: usize,
     ) -> i64;
-    fn kmip_refusal(call: *const u8, call_len: usize, into: *mut u8, room: usize) -> i64;
+    fn kmip_refusal(words: *const KmipWord<'_>, count: usize, into: *mut u8, room: usize) -> i64;
     fn kmip_contents_len(head: *const u8, eight: usize, limit: u32) -> i64;
     fn kmip_answer(
-        call: *const u8,
-        call_len: usize,
+        words: *const KmipWord<'_>,
+        count: usize,
+        id: *const u8,
+        id_len: usize,
         response: *const u8,
         response_len: usize,
         into: *mut u8,
@@ -56,6 +61,7 @@ extern "C" {
         payload_len: usize,
         response: *const u8,
         response_len: usize,
+        plain: bool,
         into: *mut u8,
         room: usize,
         length: *mut i64,
@@ -71,10 +77,8 @@ extern "C" {
         room: usize,
     ) -> i64;
     fn kmip_value(
-        call: *const u8,
-        call_len: usize,
-        response: *const u8,
-        response_len: usize,
+        line: *const u8,
+        line_len: usize,
         path: *const u8,
         path_len: usize,
         hex: bool,
@@ -83,11 +87,33 @@ extern "C" {
     ) -> i64;
 }
 
+/// A word of a call, as the library takes it: the `kmip_word` of `metsuwan.h`.
+#[repr(C)]
+#[derive(Clone, Copy)]
+pub struct KmipWord<'a> {
+    bytes: *const u8,
+    length: usize,
+    is_data: bool,
+    of: PhantomData<&'a [u8]>,
+}
+
+impl<'a> KmipWord<'a> {
+    /// A text, as it is.
+    pub fn text(text: &'a str) -> Self {
+        KmipWord { is_data: false, ..KmipWord::data(text.as_bytes()) }
+    }
+
+    /// Data.
+    pub fn data(bytes: &'a [u8]) -> Self {
+        KmipWord { bytes: bytes.as_ptr(), length: bytes.len(), is_data: true, of: PhantomData }
+    }
+}
+
 /// Why there is no request.
 #[derive(Clone, Copy, Debug, PartialEq, Eq)]
 #[non_exhaustive]
 pub enum NoRequest {
-    /// The call is not of the grammar.
+    /// The words, or what is said of the operation, are no call.
     Grammar,
     /// The request has no wire form.
     NoForm,
@@ -109,9 +135,7 @@ pub enum BadHead {
 #[derive(Clone, Copy, Debug, PartialEq, Eq)]
 #[non_exhaustive]
 pub enum NoValue {
-    /// The call is not of the grammar.
-    Grammar,
-    /// The answer has no such value, or the response is no answer.
+    /// The answer has no such value, or the line is no answer.
     Missing,
     /// Out of memory.
     Memory,
@@ -126,7 +150,7 @@ pub enum Status {
     /// An error of the server, or no answer to this request, in a whole message; the connection is
     /// good for the next call. The line is `{"error":..,"text":..}`.
     Refused,
-    /// The call is not of the grammar; there is no line.
+    /// The words, or what is said of the operation, are no call; there is no line.
     Grammar,
     /// No well-formed message, or one for another call; the connection is to be closed. The line is
     /// `{"error":..,"text":..}`.
@@ -135,9 +159,12 @@ pub enum Status {
     Memory,
 }
 
-/// What the library returns where a call is not of the grammar, and where memory ran out.
+/// What the library returns in place of a length.
 const GRAMMAR: i64 = -2;
+const ABSENT: i64 = -3;
+const LIMIT: i64 = -4;
 const MEMORY: i64 = -5;
+const NO_FORM: i64 = -6;
 
 /// Calls with more and more room until what is written fits. `write` is given the room, and returns
 /// the length, or a negative number.
@@ -156,28 +183,36 @@ fn with_room(mut room: usize, mut write: impl FnMut(&mut [u8]) -> i64) -> Result
     }
 }
 
-/// Why a line is no call: which word is wrong, and what may stand there; `None` where it is one, or
+/// Why words are no call: which is wrong, and what may stand there; `None` where they are one, or
 /// memory ran out.
-pub(crate) fn refusal(line: &str) -> Option<String> {
-    let said = with_room(1024, |into| {
-        // SAFETY: the two are slices, and their lengths are theirs.
-        unsafe { kmip_refusal(line.as_ptr(), line.len(), into.as_mut_ptr(), into.len()) }
+pub fn refusal(words: &[KmipWord<'_>]) -> Option<String> {
+    // SAFETY: each pointer is of a slice of the length beside it, also in the words, and none is
+    // null.
+    let said = with_room(1024, |into| unsafe {
+        kmip_refusal(words.as_ptr(), words.len(), into.as_mut_ptr(), into.len())
     });
-    match said {
-        Err(GRAMMAR) => Some("the line has not one space between two words".into()),
-        _ => String::from_utf8(said.ok()?).ok(),
-    }
+    String::from_utf8(said.ok()?).ok()
 }
 
-/// The request of a call, with a user and a password as its credential.
-pub fn request(call: &str, credential: Option<(&str, &str)>) -> Result<Vec<u8>, NoRequest> {
+/// The request of a call by its words, of which the first is its name, with a user and a password
+/// as its credential. That of a call of the table, as `encrypt`, has this Unique Batch Item ID (KMIP
+/// 1.0, 6.4), or where it has no bytes none; that of any other call has none.
+pub fn request(
+    words: &[KmipWord<'_>],
+    item_id: &[u8],
+    credential: Option<(&str, &str)>,
+) -> Result<Vec<u8>, NoRequest> {
     let (user, password) = credential.unwrap_or(("", ""));
-    let room = 4096 + 2 * (call.len() + user.len() + password.len());
-    // SAFETY: each pointer is of a slice of the length beside it, and none is null.
+    let length: usize = words.iter().map(|word| word.length).sum();
+    let room = 4096 + 2 * (length + user.len() + password.len());
+    // SAFETY: each pointer is of a slice of the length beside it, also in the words, and none is
+    // null.
     let made = with_room(room, |into| unsafe {
         kmip_request(
-            call.as_ptr(),
-            call.len(),
+            words.as_ptr(),
+            words.len(),
+            item_id.as_ptr(),
+            item_id.len(),
             credential.is_some(),
             user.as_ptr(),
             user.len(),
@@ -193,7 +228,7 @@ pub fn request(call: &str, credential: Option<(&str, &str)>) -> Result<Vec<u8>, 
 fn no_request(code: i64) -> NoRequest {
     match code {
         GRAMMAR => NoRequest::Grammar,
-        -6 => NoRequest::NoForm,
+        NO_FORM => NoRequest::NoForm,
         _ => NoRequest::Memory,
     }
 }
@@ -313,18 +348,22 @@ pub fn operation_refusal(call: &Operation<'_>) -> Option<String> {
 pub fn contents_len(head: &[u8; 8], limit: u32) -> Result<usize, BadHead> {
     // SAFETY: the pointer is of 8 bytes.
     match unsafe { kmip_contents_len(head.as_ptr(), head.len(), limit) } {
-        -4 => Err(BadHead::TooLong),
+        LIMIT => Err(BadHead::TooLong),
         length => usize::try_from(length).map_err(|_| BadHead::NotAStructure),
     }
 }
 
-/// What a response answers to a call, and its line of JSON.
-pub fn answer(call: &str, response: &[u8]) -> (Status, String) {
-    // SAFETY: each pointer is of a slice of the length beside it, or of `length`, and none is null.
-    line_of(response, |into, length| unsafe {
+/// What a response answers to a call whose request was that of these words and this ID, and its
+/// line of JSON.
+pub fn answer(words: &[KmipWord<'_>], item_id: &[u8], response: &[u8]) -> (Status, String) {
+    // SAFETY: each pointer is of a slice of the length beside it, also in the words, or of
+    // `length`, and none is null.
+    status_and_line(response, |into, length| unsafe {
         kmip_answer(
-            call.as_ptr(),
-            call.len(),
+            words.as_ptr(),
+            words.len(),
+            item_id.as_ptr(),
+            item_id.len(),
             response.as_ptr(),
             response.len(),
             into.as_mut_ptr(),
@@ -337,7 +376,7 @@ pub fn answer(call: &str, response: &[u8]) -> (Status, String) {
 /// What a response answers to a call of any operation, and its line of JSON.
 pub fn operation_answer(call: &Operation<'_>, response: &[u8]) -> (Status, String) {
     // SAFETY: each pointer is of a slice of the length beside it, or of `length`, and none is null.
-    line_of(response, |into, length| unsafe {
+    status_and_line(response, |into, length| unsafe {
         kmip_operation_answer(
             call.name.as_ptr(),
             call.name.len(),
@@ -349,6 +388,7 @@ pub fn operation_answer(call: &Operation<'_>, response: &[u8]) -> (Status, Strin
             call.payload.len(),
             response.as_ptr(),
             response.len(),
+            false,
             into.as_mut_ptr(),
             into.len(),
             length,
@@ -357,7 +397,10 @@ pub fn operation_answer(call: &Operation<'_>, response: &[u8]) -> (Status, Strin
 }
 
 /// The status that `read` returns, and the line that it writes.
-fn line_of(response: &[u8], mut read: impl FnMut(&mut [u8], &mut i64) -> i32) -> (Status, String) {
+fn status_and_line(
+    response: &[u8],
+    mut read: impl FnMut(&mut [u8], &mut i64) -> i32,
+) -> (Status, String) {
     let mut status = 5;
     // Bytes have two hex digits each; a line that is longer is written a second time.
     let room = response.len().saturating_mul(2).saturating_add(4096);
@@ -380,16 +423,15 @@ fn line_of(response: &[u8], mut read: impl FnMut(&mut [u8], &mut i64) -> i32) ->
     (status, line.unwrap_or_else(|error| String::from_utf8_lossy(error.as_bytes()).into_owned()))
 }
 
-/// A value of the answer that a response is to a call, at a path as `attributes.0.name`: as text,
-/// or with `hex` the bytes that a string of hex digits stands for.
-pub fn value(call: &str, response: &[u8], path: &str, hex: bool) -> Result<Vec<u8>, NoValue> {
+/// A value in the line of an answer, at a path as `attributes.0.name`, or in a tree as
+/// `Attribute.1.AttributeName`: as text, or with `hex` the bytes that a string of hex digits stands
+/// for.
+pub fn value(line: &str, path: &str, hex: bool) -> Result<Vec<u8>, NoValue> {
     // SAFETY: each pointer is of a slice of the length beside it, and none is null.
-    let made = with_room(response.len(), |into| unsafe {
+    let made = with_room(line.len(), |into| unsafe {
         kmip_value(
-            call.as_ptr(),
-            call.len(),
-            response.as_ptr(),
-            response.len(),
+            line.as_ptr(),
+            line.len(),
             path.as_ptr(),
             path.len(),
             hex,
@@ -398,8 +440,7 @@ pub fn value(call: &str, response: &[u8], path: &str, hex: bool) -> Result<Vec<u
         )
     });
     made.map_err(|code| match code {
-        GRAMMAR => NoValue::Grammar,
-        -3 => NoValue::Missing,
+        ABSENT => NoValue::Missing,
         _ => NoValue::Memory,
     })
 }

@@ -237,6 +237,6 @@ impl GetResponsePayload {
             return keys::pem_of_payload(&self.payload()?);
         };
         let der = if is_certificate { self.certificate_value()? } else { self.key_material()? };
-        Ok(pem::write(label, &der))
+        Ok(pem::text_of(label, &der))
     }
 }

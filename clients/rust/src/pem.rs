@@ -17,7 +17,7 @@ pub(crate) fn label_of(object_type: &str, format: &str) -> Option<&'static str> 
 }
 
 /// The text of these bytes under a label.
-pub(crate) fn write(label: &str, der: &[u8]) -> String {
+pub(crate) fn text_of(label: &str, der: &[u8]) -> String {
     let mut made = format!("-----BEGIN {label}-----\n");
     // 48 bytes are a line of 64 characters.
     for line in der.chunks(48) {
@@ -75,7 +75,7 @@ fn whole_der(given: &[u8]) -> Result<Cow<'_, [u8]>> {
         return Err(no("is several in one PEM, and one at a time is registered"));
     }
     let (base64, _) = part.split_once(END).ok_or_else(|| no("has no end in its PEM"))?;
-    let der = bytes_of(base64).ok_or_else(|| no("is not base64 in its PEM"))?;
+    let der = bytes_of_base64(base64).ok_or_else(|| no("is not base64 in its PEM"))?;
     if !is_whole(&der) {
         return Err(no("is not one whole structure of DER in its PEM"));
     }
@@ -145,7 +145,7 @@ fn is_read(_: &[u8]) -> bool {
 }
 
 /// The bytes of base64 (RFC 4648, 4) with white space anywhere.
-pub(crate) fn bytes_of(base64: &str) -> Option<Vec<u8>> {
+pub(crate) fn bytes_of_base64(base64: &str) -> Option<Vec<u8>> {
     let digits: Vec<u8> = base64.bytes().filter(|byte| !byte.is_ascii_whitespace()).collect();
     let padding = digits.iter().rev().take_while(|byte| **byte == b'=').count();
     if digits.len() % 4 != 0 || padding > 2 {
@@ -178,14 +178,14 @@ mod tests {
             ("fooba", "Zm9vYmE="),
             ("foobar", "Zm9vYmFy"),
         ] {
-            let pem = write("X", bytes.as_bytes());
+            let pem = text_of("X", bytes.as_bytes());
             assert_eq!(pem, format!("-----BEGIN X-----\n{wanted}\n-----END X-----\n"));
-            assert_eq!(bytes_of(wanted).as_deref(), Some(bytes.as_bytes()));
+            assert_eq!(bytes_of_base64(wanted).as_deref(), Some(bytes.as_bytes()));
         }
-        assert_eq!(bytes_of("\r\n Zm9v\tYg\n=="), Some(b"foob".to_vec()));
-        assert_eq!(bytes_of(""), Some(vec![]));
+        assert_eq!(bytes_of_base64("\r\n Zm9v\tYg\n=="), Some(b"foob".to_vec()));
+        assert_eq!(bytes_of_base64(""), Some(vec![]));
         for wrong in ["Zg", "Zg=", "Z===", "====", "Zg==Zg==", "Zm9*", "=Zg="] {
-            assert_eq!(bytes_of(wrong), None, "{wrong}");
+            assert_eq!(bytes_of_base64(wrong), None, "{wrong}");
         }
     }
 
@@ -203,7 +203,7 @@ mod tests {
     fn certificates_are_der_or_pem() {
         let der = certificate_der(CERTIFICATE.as_bytes()).unwrap().into_owned();
         assert_eq!(certificate_der(&der).unwrap(), der);
-        let pem = write("CERTIFICATE", &der);
+        let pem = text_of("CERTIFICATE", &der);
         assert_eq!(pem, CERTIFICATE);
         let pem = format!("0: \u{e9}\r\n{}after", pem.replace('\n', "\r\n"));
         assert_eq!(certificate_der(pem.as_bytes()).unwrap(), der);
@@ -211,13 +211,13 @@ mod tests {
 
     #[test]
     fn no_other_structure_is_a_certificate() {
-        let mut ders: Vec<_> = KEYS.iter().map(|pem| bytes_of(pem).unwrap()).collect();
+        let mut ders: Vec<_> = KEYS.iter().map(|pem| bytes_of_base64(pem).unwrap()).collect();
         ders.extend([vec![0x30, 0x00], vec![0x30, 0x01, 0xFF], vec![0x30, 0x02, 0x30, 0x00]]);
         ders.push([vec![0x30, 0x82, 0x01, 0x00], vec![7; 256]].concat());
         for der in ders {
             refused(&der, "is none of X.509");
-            refused(write("CERTIFICATE", &der).as_bytes(), "is none of X.509");
-            refused(write("PRIVATE KEY", &der).as_bytes(), "is neither DER nor PEM");
+            refused(text_of("CERTIFICATE", &der).as_bytes(), "is none of X.509");
+            refused(text_of("PRIVATE KEY", &der).as_bytes(), "is neither DER nor PEM");
         }
         let der = certificate_der(CERTIFICATE.as_bytes()).unwrap().into_owned();
         for at in 0..der.len() {
@@ -236,9 +236,9 @@ mod tests {
 
     #[test]
     fn what_is_no_certificate_is_refused() {
-        let one = write("CERTIFICATE", &[0x30, 0x00]);
+        let one = text_of("CERTIFICATE", &[0x30, 0x00]);
         let neither = "is neither DER nor PEM";
-        for given in ["", "x", &write("PRIVATE KEY", &[0x30, 0x00])] {
+        for given in ["", "x", &text_of("PRIVATE KEY", &[0x30, 0x00])] {
             refused(given.as_bytes(), neither);
         }
         refused(b"\xFF", neither);
@@ -248,14 +248,14 @@ mod tests {
         for der in [&[0x30][..], &[0x30, 0x01], &[0x30, 0x00, 0x00], &[0x30, 0x80, 0x00, 0x00]] {
             refused(der, "is not one whole structure of DER");
             let why = "is not one whole structure of DER in its PEM";
-            refused(write("CERTIFICATE", der).as_bytes(), why);
+            refused(text_of("CERTIFICATE", der).as_bytes(), why);
         }
     }
 
     #[test]
     fn lines_have_64_characters() {
         let lengths =
-            |count| write("X", &vec![0xFF; count]).lines().map(str::len).collect::<Vec<_>>();
+            |count| text_of("X", &vec![0xFF; count]).lines().map(str::len).collect::<Vec<_>>();
         assert_eq!(lengths(48), [17, 64, 15]);
         assert_eq!(lengths(49), [17, 64, 4, 15]);
         assert_eq!(lengths(0), [17, 15]);

@@ -1,23 +1,25 @@
-//! The calls of the grammar, and how their words are written.
-//!
-//! The library alone says what is of the grammar. The table here says which words a call takes, so
-//! that bytes are not taken for a text, or a number for bytes.
+//! The words of calls. The library takes them as they are, and it alone says what is a call; the
+//! tables here say which of them are bytes, so that bytes are taken for no text.
 use crate::error::{Error, Result};
-use crate::library;
-use std::fmt::{self, Debug, Formatter, Write};
+use crate::json::bytes_of_hex;
+use crate::keys::is_pem;
+use crate::library::KmipWord;
+use std::fmt::{self, Debug, Formatter};
+use std::iter;
 
 /// A word of a call. `Debug` shows no bytes, since they may be of a key.
 #[derive(Clone, Copy, PartialEq, Eq)]
 #[non_exhaustive]
 pub enum Word<'a> {
-    /// A text, as an identifier or a name.
+    /// A text, as an identifier or a name: any text, as it is.
     Text(&'a str),
     /// Bytes, as those that are signed.
     Bytes(&'a [u8]),
     /// A number, as that of the bits of a key.
     Number(i32),
     /// An option, which stands after the other words: its name and its value, as
-    /// `("hash", "SHA384")`. The value of `prehashed` is empty.
+    /// `("hash", "SHA384")`. The value of `prehashed` is empty, and one of bytes, as of `iv`, is in
+    /// hex digits.
     Option(&'a str, &'a str),
 }
 
@@ -32,446 +34,292 @@ impl Debug for Word<'_> {
     }
 }
 
-/// The word of the empty text, and of no bytes.
-const EMPTY: &str = "-";
-
-/// What stands behind `locate` where attributes follow.
-const WHERE: &str = " where";
-
-#[derive(Clone, Copy, PartialEq, Eq)]
-enum Kind {
-    Identifier,
-    Text,
-    Bytes,
-    Number,
-}
-
-/// Each call, the kinds of its words, and the names of its options.
-type Call = (&'static str, &'static [Kind], &'static [&'static str]);
+/// A call, how many of its first words are no options, and which of them are bytes, counted from 0.
+type Call = (&'static str, usize, &'static [usize]);
 // clients/grammar.py: calls
-const ATTRIBUTES: &[&str] =
-    &["name", "group", "contact", "type", "state", "algorithm", "length", "activation"];
-const CHANGES: &[&str] =
-    &["name", "group", "contact", "type", "state", "algorithm", "length", "activation", "index"];
 const CALLS: [Call; 19] = [
-    ("query", &[], &[]),
-    ("discover", &[], &[]),
-    ("create-rsa", &[Kind::Number, Kind::Text, Kind::Text], &["private-usage", "public-usage"]),
-    ("create-aes", &[Kind::Number, Kind::Text], &[]),
-    ("create", &[Kind::Text, Kind::Number, Kind::Text], &["usage"]),
-    ("register", &[Kind::Text, Kind::Bytes], &["format", "algorithm", "length", "usage", "name"]),
-    ("locate", &[Kind::Text], ATTRIBUTES),
-    ("attributes", &[Kind::Identifier], &[]),
-    ("attribute-add", &[Kind::Identifier], ATTRIBUTES),
-    ("attribute-modify", &[Kind::Identifier], CHANGES),
-    ("attribute-delete", &[Kind::Identifier, Kind::Text], &["index"]),
-    ("activate", &[Kind::Identifier], &[]),
-    ("sign", &[Kind::Identifier, Kind::Bytes], &["hash", "padding", "algorithm", "prehashed"]),
-    ("rename", &[Kind::Identifier, Kind::Text], &[]),
-    ("get", &[Kind::Identifier], &["format", "wrap"]),
-    ("revoke", &[Kind::Identifier], &["reason", "message", "since"]),
-    ("destroy", &[Kind::Identifier], &[]),
-    ("rng", &[Kind::Number], &[]),
-    ("raw", &[Kind::Bytes], &[]),
+    ("query", 0, &[]),
+    ("discover", 0, &[]),
+    ("create-rsa", 3, &[]),
+    ("create-aes", 2, &[]),
+    ("create", 3, &[]),
+    ("register", 2, &[1]),
+    ("locate", 0, &[]),
+    ("attributes", usize::MAX, &[]),
+    ("attribute-add", 1, &[]),
+    ("attribute-modify", 1, &[]),
+    ("attribute-delete", 2, &[]),
+    ("activate", 1, &[]),
+    ("sign", 2, &[1]),
+    ("rename", 2, &[]),
+    ("get", 1, &[]),
+    ("revoke", 1, &[]),
+    ("destroy", 1, &[]),
+    ("rng", 1, &[]),
+    ("raw", 1, &[0]),
 ];
 // clients/grammar.py: end
 
-/// An option as a word: its name, `=`, and its value, in which the names of several uses are kept
-/// apart by `,`.
-fn option_word(name: &str, value: &str) -> String {
-    let is_name =
-        |name: &str| name.bytes().all(|byte| byte.is_ascii_alphanumeric() || byte == b'_');
-    if name == "prehashed" && value.is_empty() {
-        return name.into();
-    }
-    if name.ends_with("usage") && !value.is_empty() && value.split(',').all(is_name) {
-        return format!("{name}={value}");
-    }
-    format!("{name}={}", text_word(value))
-}
+/// The same of the calls of the table, `kmip_call --operations`.
+const TABLE: [Call; 24] = [
+    ("encrypt", 2, &[1]),
+    ("decrypt", 2, &[1]),
+    ("mac", 2, &[1]),
+    ("mac-verify", 3, &[1, 2]),
+    ("verify", 3, &[1, 2]),
+    ("hash", 1, &[0]),
+    ("derive-key", 2, &[]),
+    ("rekey", 1, &[]),
+    ("rekey-pair", 1, &[]),
+    ("certify", 1, &[]),
+    ("recertify", 1, &[]),
+    ("create-ec", 3, &[]),
+    ("create-pair", 4, &[]),
+    ("create-key", 3, &[]),
+    ("check", 1, &[]),
+    ("attribute-list", 1, &[]),
+    ("lease", 1, &[]),
+    ("usage-allocation", 2, &[]),
+    ("archive", 1, &[]),
+    ("recover", 1, &[]),
+    ("validate", usize::MAX, &[]),
+    ("cancel", 1, &[0]),
+    ("poll", 1, &[0]),
+    ("rng-seed", 1, &[0]),
+];
 
-/// A typed word as an option of this call, where it is one.
-fn option_of<'a>(name: &str, text: &'a str) -> Option<(&'a str, &'a str)> {
-    let (_, _, options) = CALLS.iter().find(|(call, _, _)| *call == name)?;
-    let (option, value) = match text.split_once('=') {
-        None if text == "prehashed" => (text, ""),
-        parted => parted?,
-    };
-    options.contains(&option).then_some((option, value))
-}
-
-/// The typed words of a call that stand before its options, and its options. One word behind
-/// `locate` is a name, also with a `=`; attributes stand behind `where`, which may be left out
-/// before two.
-fn parted<'a, 'b>(name: &str, texts: &'a [&'b str]) -> (&'a [&'b str], &'a [&'b str]) {
-    let (plain, options) = match (name, texts) {
-        ("locate", ["where", options @ ..]) if !options.is_empty() => (&texts[..0], options),
-        ("locate", options) if options.len() > 1 => (&texts[..0], options),
-        ("locate", _) => return (texts, &[]),
-        _ => {
-            let found = CALLS.iter().find(|(call, _, _)| *call == name);
-            let own = found.map_or(0, |(_, kinds, _)| kinds.len());
-            texts.split_at(own.min(texts.len()))
-        }
-    };
-    if options.iter().all(|text| option_of(name, text).is_some()) {
-        (plain, options)
-    } else {
-        (texts, &[])
-    }
-}
-
-impl Kind {
-    fn name(self) -> &'static str {
-        match self {
-            Kind::Identifier => "an identifier",
-            Kind::Text => "a text",
-            Kind::Bytes => "bytes",
-            Kind::Number => "a number",
-        }
-    }
-
-    /// A word as the grammar wants it, or why it is none.
-    fn write(self, word: Word<'_>) -> std::result::Result<String, String> {
-        match (self, word) {
-            (Kind::Identifier | Kind::Text, Word::Text(text)) => Ok(text_word(text)),
-            (Kind::Bytes, Word::Bytes(bytes)) => Ok(bytes_word(bytes)),
-            (Kind::Number, Word::Number(number)) => Ok(number.to_string()),
-            (_, Word::Text(_)) => Err("a text was given".into()),
-            (_, Word::Bytes(_)) => Err("bytes were given".into()),
-            (_, Word::Number(_)) => Err("a number was given".into()),
-            (_, Word::Option(..)) => Err("an option was given".into()),
-        }
-    }
-
-    /// The same for a word that was typed: a number in decimal digits, bytes in hex digits.
-    fn read(self, text: &str) -> std::result::Result<String, String> {
-        match self {
-            Kind::Identifier | Kind::Text => Ok(text_word(text)),
-            Kind::Bytes if text.is_empty() => Ok(EMPTY.into()),
-            Kind::Bytes => {
-                let is_hex = text.bytes().all(|byte| byte.is_ascii_hexdigit());
-                (is_hex && text.len() % 2 == 0)
-                    .then(|| text.to_ascii_uppercase())
-                    .ok_or_else(|| "it is not of hex digits, two for each byte".into())
-            }
-            Kind::Number => {
-                let number = text.parse::<i32>().map(|number| number.to_string()).ok();
-                number.filter(|number| number == text).ok_or_else(|| {
-                    "it is not written in decimal digits, or has more than 32 bits".into()
-                })
-            }
-        }
-    }
-}
-
-/// A text with what is special as % and two hex digits.
-fn text_word(text: &str) -> String {
-    match text {
-        "" => return EMPTY.into(),
-        EMPTY => return "%2D".into(),
-        _ => {}
-    }
-    let mut made = String::with_capacity(text.len());
-    for byte in text.bytes() {
-        if byte.is_ascii_alphanumeric() || b"._~-".contains(&byte) {
-            made.push(char::from(byte));
-        } else {
-            // Writing to a String does not fail.
-            let _ = write!(made, "%{byte:02X}");
-        }
-    }
-    made
-}
-
-fn bytes_word(bytes: &[u8]) -> String {
-    const DIGITS: &[u8; 16] = b"0123456789ABCDEF";
-    if bytes.is_empty() {
-        return EMPTY.into();
-    }
-    let digit = |nibble: u8| char::from(DIGITS[usize::from(nibble)]);
-    bytes.iter().flat_map(|byte| [digit(byte >> 4), digit(byte & 15)]).collect()
-}
-
-/// The kinds of a call's words, which are so many.
-fn kinds_of(name: &str, count: usize) -> Result<Vec<Kind>> {
-    let Some((_, kinds, _)) = CALLS.iter().find(|(call, _, _)| *call == name) else {
+/// That each word is one where the call has bytes, a text or an option.
+fn check(name: &str, words: &[Word<'_>]) -> Result<()> {
+    let mut calls = CALLS.iter().chain(&TABLE);
+    let Some((_, count, bytes)) = calls.find(|(call, ..)| *call == name) else {
         return Err(Error::grammar(format!("there is no call {name}")));
     };
-    let mut kinds = kinds.to_vec();
-    match name {
-        "locate" => kinds.truncate(count),
-        "attributes" if count > 1 => kinds.resize(count, Kind::Text),
-        _ => {}
-    }
-    if count > kinds.len() {
-        let extra = kinds.len() + 1;
-        return Err(Error::grammar(format!("{name}: word {extra} after it is one too many")));
-    }
-    match kinds.get(count) {
-        None => Ok(kinds),
-        Some(kind) => Err(Error::grammar(format!(
-            "{name}: word {} after it is missing: {}",
-            count + 1,
-            kind.name()
-        ))),
-    }
-}
-
-/// The line of a call: the one place in which arguments become words.
-fn line_by<W: Copy>(
-    name: &str,
-    words: &[W],
-    write: impl Fn(Kind, W) -> std::result::Result<String, String>,
-) -> Result<String> {
-    let mut line = name.to_string();
-    for (at, (kind, word)) in kinds_of(name, words.len())?.iter().zip(words).enumerate() {
-        let place = format!("{name}: word {} after it", at + 1);
-        let written = write(*kind, *word)
-            .map_err(|why| Error::grammar(format!("{place} is not {}: {why}", kind.name())))?;
-        if *kind == Kind::Identifier && written == EMPTY {
-            // A server may take it for the last object that was made on the connection.
-            return Err(Error::grammar(format!("{place} is empty, and has to be an identifier")));
-        }
-        line.push(' ');
-        line.push_str(&written);
-    }
-    Ok(line)
-}
-
-/// The line of a call with these words, of which options stand after the others.
-pub(crate) fn line(name: &str, words: &[Word<'_>]) -> Result<String> {
-    let is_option = |word: &Word<'_>| matches!(word, Word::Option(..));
-    let plain = words.iter().position(is_option).unwrap_or(words.len());
-    let mut line = line_by(name, &words[..plain], Kind::write)?;
-    if name == "locate" && plain == 0 && !words.is_empty() {
-        line.push_str(WHERE);
-    }
-    for (at, word) in words.iter().enumerate().skip(plain) {
-        let Word::Option(option, value) = word else {
-            let place = at + 1;
-            return Err(Error::grammar(format!("{name}: word {place} after it is no option")));
+    for (at, word) in words.iter().enumerate() {
+        let wrong = match word {
+            Word::Option(..) if at < *count => "may not be an option",
+            Word::Bytes(_) if !bytes.contains(&at) => "may not be bytes",
+            Word::Text(_) | Word::Number(_) if bytes.contains(&at) => "has to be bytes",
+            _ => continue,
         };
-        if !CALLS.iter().any(|(call, _, options)| *call == name && options.contains(option)) {
-            return Err(Error::grammar(format!("{name}: there is no option {option}")));
+        return Err(Error::grammar(format!("{name}: word {} after it {wrong}", at + 1)));
+    }
+    Ok(())
+}
+
+/// Words, and after them options by their names.
+pub(crate) fn with_options<'a>(
+    words: &[Word<'a>],
+    options: impl Iterator<Item = (&'a str, &'a str)>,
+) -> Vec<Word<'a>> {
+    let options = options.map(|(name, value)| Word::Option(name, value));
+    words.iter().copied().chain(options).collect()
+}
+
+/// A word that is kept.
+enum Kept {
+    Text(String),
+    Data(Vec<u8>),
+}
+
+impl Kept {
+    fn of(word: &Word<'_>) -> Kept {
+        Kept::Text(match word {
+            Word::Bytes(bytes) => return Kept::Data(bytes.to_vec()),
+            Word::Text(text) => (*text).to_string(),
+            Word::Number(number) => number.to_string(),
+            Word::Option("prehashed", "") => "prehashed".to_string(),
+            Word::Option(name, value) => format!("{name}={value}"),
+        })
+    }
+
+    fn given(&self) -> KmipWord<'_> {
+        match self {
+            Kept::Text(text) => KmipWord::text(text),
+            Kept::Data(bytes) => KmipWord::data(bytes),
         }
-        line.push(' ');
-        line.push_str(&option_word(option, value));
     }
-    Ok(line)
 }
 
-/// The line of a call whose words were typed. Of those that are none the library says which.
-pub(crate) fn line_of_texts(name: &str, texts: &[&str]) -> Result<String> {
-    read_texts(name, texts).map_err(|error| refusal_of(name, texts).map_or(error, Error::grammar))
-}
+/// The words of a call, its name first, which are kept.
+pub(crate) struct Words(Vec<Kept>);
 
-/// What the library says of a call as it was typed, where its name is that of a call.
-fn refusal_of(name: &str, texts: &[&str]) -> Option<String> {
-    CALLS.iter().find(|(call, _, _)| *call == name)?;
-    let mut line = name.to_string();
-    for text in texts {
-        line.push(' ');
-        line.push_str(&match option_of(name, text) {
-            Some((option, value)) => option_word(option, value),
-            None => text_word(text),
-        });
+impl Words {
+    /// Those of the call with this name.
+    ///
+    /// # Errors
+    /// `GrammarError`: bytes, or an option, stand where the call has another word, or the other way
+    /// round; or the bytes of a key are PEM.
+    pub(crate) fn new(name: &str, words: &[Word<'_>]) -> Result<Words> {
+        check(name, words)?;
+        // One word alone is a name.
+        let is_where = name == "locate" && matches!(words, [Word::Option(..), ..]);
+        let front = is_where.then_some(Word::Text("where"));
+        Words::of(name, front.iter().chain(words))
     }
-    library::refusal(&line)
-}
 
-fn read_texts(name: &str, texts: &[&str]) -> Result<String> {
-    let (plain, options) = parted(name, texts);
-    let mut line = line_by(name, plain, Kind::read)?;
-    if name == "locate" && !options.is_empty() {
-        line.push_str(WHERE);
+    /// Those of a call that was typed: bytes are in hex digits.
+    pub(crate) fn of_texts(name: &str, texts: &[&str]) -> Result<Words> {
+        let words: Vec<_> = texts.iter().map(|text| Word::Text(text)).collect();
+        Words::of(name, &words)
     }
-    for (option, value) in options.iter().filter_map(|text| option_of(name, text)) {
-        line.push(' ');
-        line.push_str(&option_word(option, value));
+
+    fn of<'a>(name: &str, words: impl IntoIterator<Item = &'a Word<'a>>) -> Result<Words> {
+        let words = words.into_iter().map(Kept::of);
+        let words: Vec<_> = iter::once(Kept::Text(name.into())).chain(words).collect();
+        let is_pem = |word: &Kept| match word {
+            Kept::Text(digits) => bytes_of_hex(digits).is_some_and(|bytes| is_pem(&bytes)),
+            Kept::Data(bytes) => is_pem(bytes),
+        };
+        if name == "register" && words.iter().any(is_pem) {
+            let text = "register: the key is PEM, which would be kept as its bytes: \
+                        register_private_key and register_public_key take it";
+            return Err(Error::grammar(text));
+        }
+        Ok(Words(words))
     }
-    Ok(line)
+
+    /// The name of the call, and the texts after it.
+    pub(crate) fn texts(&self) -> impl Iterator<Item = &str> {
+        self.0.iter().filter_map(|word| match word {
+            Kept::Text(text) => Some(text.as_str()),
+            Kept::Data(_) => None,
+        })
+    }
+
+    /// As the library takes them.
+    pub(crate) fn given(&self) -> Vec<KmipWord<'_>> {
+        self.0.iter().map(Kept::given).collect()
+    }
 }
 
 #[cfg(test)]
 mod tests {
     use super::*;
+    use crate::library;
 
-    fn refusal(line: &str) -> String {
-        library::refusal(line).unwrap_or_else(|| panic!("{line} is a call"))
+    fn refusal(words: &[&str]) -> String {
+        let given: Vec<_> = words.iter().map(|text| KmipWord::text(text)).collect();
+        library::refusal(&given).unwrap_or_else(|| panic!("{words:?} are a call"))
     }
 
     #[test]
-    fn each_call_of_the_table_is_explained_by_its_words() {
-        for (name, kinds, options) in CALLS {
-            let said = refusal(&format!("{name} - - - - - -"));
-            assert!(said.contains(name) || said.contains("identifier"), "{said}");
-            if name == "locate" || name.starts_with("attribute") {
-                continue;
-            }
-            for option in options {
-                let word = if *option == "prehashed" { "prehashed" } else { &format!("{option}=") };
-                let said = refusal(&format!("{name}{} no= {word}x", " x".repeat(kinds.len())));
-                assert!(said.starts_with(&format!("the words are not those of {name} ")), "{said}");
-                assert!(
-                    said.contains(&format!(" {word}")) || said.contains(&format!("[{word}]")),
-                    "{said}"
-                );
-            }
+    fn the_table_is_that_of_the_library() {
+        for (name, count, places) in TABLE {
+            let said = refusal(&[name]);
+            let (_, form) = said.split_once(&format!("; its form is: {name} ")).expect(name);
+            let is_word = |word: &&str| !word.contains(['[', '=']);
+            let words: Vec<_> = form.split(' ').take_while(is_word).collect();
+            let is_bytes = |at: &usize| ["DATA", "MAC", "SIGNATURE", "HEX"].contains(&words[*at]);
+            assert_eq!((0..words.len()).filter(is_bytes).collect::<Vec<_>>(), places, "{name}");
+            let wanted = if form.ends_with("..]") { usize::MAX } else { words.len() };
+            assert_eq!(count, wanted, "{name}");
         }
     }
 
     #[test]
     fn which_word_is_wrong_is_said() {
-        let algorithms = "is none of DES, TRIPLE_DES, AES, RSA";
-        let rows = [
-            ("sign k - padding=PSS hash=SHA3", "sign: hash=SHA3 is none of MD2, MD4, MD5, SHA1, "),
-            ("get k format=Raw format=Raw", "get: format= is given twice"),
-            ("create HMAC_SHA256 8 n", "create: ALGORITHM is none of DES, TRIPLE_DES, AES, RSA"),
-            ("create AES 8 n usage=Sing", "create: usage=Sing is none of Sign, Verify, "),
+        let registered = ["register", "public", "", "format=Raw", "length=8"];
+        let rows: [(&[&str], &str); 15] = [
             (
-                "register secret - format=Raw algorithm=AES length=8",
-                "register: KIND is none of public",
+                &["sign", "k", "", "padding=PSS", "hash=SHA3"],
+                "sign: hash=SHA3 is none of MD2, MD4, MD5, SHA1, ",
             ),
-            ("register public - format=Raw length=8", "register: algorithm= is missing"),
-            ("locate name=a state=x", "locate: state=x is none of PreActive, Active, "),
-            ("locate a name=a", "locate: ATTRIBUTE is none of name=, group=, "),
-            ("attribute-add k", "the words are not those of attribute-add ID ATTRIBUTE"),
-            ("raw 00", "raw: the bytes are not the one canonical message of a request"),
-            ("sign k 00 prehashed hash=SHA256", "prehashed and hash= exclude each other: "),
-            ("get k wrap=-", "an identifier is empty; "),
+            (&["get", "k", "format=Raw", "format=Raw"], "get: format= is given twice"),
+            (
+                &["create", "HMAC_SHA256", "8", "n"],
+                "create: ALGORITHM is none of DES, TRIPLE_DES, AES, RSA",
+            ),
+            (
+                &["create", "AES", "8", "n", "usage=Sing"],
+                "create: usage=Sing is none of Sign, Verify, ",
+            ),
+            (&["register", "secret", ""], "register: KIND is none of public"),
+            (&registered, "register: algorithm= is missing"),
+            (&["locate", "name=a", "state=x"], "locate: state=x is none of PreActive, Active, "),
+            (&["locate", "a", "name=a"], "locate: ATTRIBUTE is none of name=, group=, "),
+            (&["attribute-add", "k"], "the words are not those of attribute-add ID ATTRIBUTE"),
+            (&["raw", "00"], "raw: the bytes are not the one canonical message of a request"),
+            (
+                &["sign", "k", "00", "prehashed", "hash=SHA256"],
+                "prehashed and hash= exclude each other: ",
+            ),
+            (&["get", "k", "wrap="], "an identifier is empty; "),
+            (&["encrypt", "k", "0"], "encrypt: DATA has to be an even number of hex digits"),
+            (&["encrypt", "", "00"], "encrypt: ID has to be a text that is not empty; "),
+            (&["hash", "00"], "hash: hash= has to be one of MD2, MD4, "),
         ];
-        for (line, wanted) in rows {
-            let said = refusal(line);
-            assert!(said.starts_with(wanted), "{line}: {said}");
+        for (words, wanted) in rows {
+            let said = refusal(words);
+            assert!(said.starts_with(wanted), "{words:?}: {said}");
         }
-        let line = "register public - format=Raw algorithm=EC length=8";
-        assert_eq!(refusal(line), format!("register: algorithm=EC {algorithms}"));
     }
 
-    fn refused(made: Result<String>, wanted: &str) {
-        match made {
+    fn refused(name: &str, words: &[Word<'_>], wanted: &str) {
+        match Words::new(name, words) {
             Err(Error::GrammarError(error)) => assert_eq!(error.text(), wanted),
-            other => panic!("{other:?} in place of {wanted}"),
+            Err(error) => panic!("{error} in place of {wanted}"),
+            Ok(_) => panic!("there is no {wanted}"),
         }
     }
 
     #[test]
-    fn words_are_written_as_the_grammar_wants_them() {
-        let rows = [
-            ("k1", "k1"),
-            ("", "-"),
-            ("-", "%2D"),
-            ("--", "--"),
-            ("my key", "my%20key"),
-            ("50%\n", "50%25%0A"),
-            ("\u{e9}", "%C3%A9"),
-        ];
-        for (given, wanted) in rows {
-            assert_eq!(line("locate", &[Word::Text(given)]).unwrap(), format!("locate {wanted}"));
-            assert_eq!(line_of_texts("locate", &[given]).unwrap(), format!("locate {wanted}"));
+    fn bytes_stand_where_the_call_has_them() {
+        let (key, data) = (Word::Text("k"), Word::Bytes(b"8"));
+        for name in ["activate", "get", "attributes", "revoke", "destroy", "archive", "validate"] {
+            let wanted = format!("{name}: word 1 after it may not be bytes");
+            refused(name, &[data], &wanted);
+            refused(name, &[Word::Bytes(&[])], &wanted);
+            assert!(Words::new(name, &[key]).is_ok());
         }
-        let sign = |bytes| line("sign", &[Word::Text("a b"), Word::Bytes(bytes)]).unwrap();
-        assert_eq!(sign(&[0, 0xAB]), "sign a%20b 00AB");
-        assert_eq!(sign(&[]), "sign a%20b -");
-        assert_eq!(line("rng", &[Word::Number(-5)]).unwrap(), "rng -5");
-        assert_eq!(line("query", &[]).unwrap(), "query");
+        for name in ["sign", "encrypt", "decrypt", "mac", "mac-verify", "verify"] {
+            refused(name, &[data, data], &format!("{name}: word 1 after it may not be bytes"));
+            for text in [Word::Text("00"), Word::Number(10)] {
+                refused(name, &[key, text], &format!("{name}: word 2 after it has to be bytes"));
+            }
+            assert!(Words::new(name, &[key, data]).is_ok());
+        }
+        refused("verify", &[key, data, key], "verify: word 3 after it has to be bytes");
+        refused("sign", &[key, data, data], "sign: word 3 after it may not be bytes");
+        refused("locate", &[data], "locate: word 1 after it may not be bytes");
+        refused("attributes", &[key, data], "attributes: word 2 after it may not be bytes");
     }
 
     #[test]
-    fn an_empty_identifier_is_refused() {
-        let identifiers = ["activate", "get", "attributes", "revoke", "destroy"];
-        for name in identifiers {
-            let wanted = format!("{name}: word 1 after it is empty, and has to be an identifier");
-            refused(line(name, &[Word::Text("")]), &wanted);
-            let said = "an identifier is empty; a request that means it is sent by message";
-            refused(line_of_texts(name, &[""]), said);
-            let wanted = format!("{name}: word 1 after it is not an identifier: bytes were given");
-            refused(line(name, &[Word::Bytes(&[])]), &wanted);
-            refused(line(name, &[Word::Bytes(b"8")]), &wanted);
-        }
-        for (name, second) in [("sign", Word::Bytes(&[0])), ("rename", Word::Text("x"))] {
-            let wanted = format!("{name}: word 1 after it is empty, and has to be an identifier");
-            refused(line(name, &[Word::Text(""), second]), &wanted);
+    fn options_stand_behind_the_words() {
+        let (key, option) = (Word::Text("k"), Word::Option("a", "b"));
+        refused("rename", &[key, option], "rename: word 2 after it may not be an option");
+        refused("sign", &[key, option], "sign: word 2 after it may not be an option");
+        refused("encrypt", &[option], "encrypt: word 1 after it may not be an option");
+        refused("attributes", &[key, option], "attributes: word 2 after it may not be an option");
+        refused("validate", &[key, option], "validate: word 2 after it may not be an option");
+        for name in ["get", "locate", "archive", "attribute-add"] {
+            assert!(Words::new(name, &[key, option]).is_ok());
         }
     }
 
     #[test]
-    fn a_call_is_one_of_the_grammar() {
+    fn a_call_has_the_name_of_one() {
         for name in ["", "sing", "sign -", "sign k1", " query", "query ", "Query", "query\n"] {
-            refused(line(name, &[Word::Bytes(&[0])]), &format!("there is no call {name}"));
+            refused(name, &[Word::Bytes(&[0])], &format!("there is no call {name}"));
         }
-        refused(line("destroy", &[]), "destroy: word 1 after it is missing: an identifier");
-        refused(line("rename", &[Word::Text("1")]), "rename: word 2 after it is missing: a text");
-        refused(line("query", &[Word::Text("1")]), "query: word 1 after it is one too many");
+    }
+
+    fn texts(name: &str, words: &[Word<'_>]) -> Vec<String> {
+        Words::new(name, words).unwrap().texts().map(str::to_string).collect()
     }
 
     #[test]
-    fn words_are_of_the_kind_that_the_call_takes() {
-        let sign = |second| line("sign", &[Word::Text("1"), second]);
-        refused(sign(Word::Number(5)), "sign: word 2 after it is not bytes: a number was given");
-        refused(sign(Word::Text("00")), "sign: word 2 after it is not bytes: a text was given");
-        let text = [Word::Text("5")];
-        refused(line("rng", &text), "rng: word 1 after it is not a number: a text was given");
-    }
-
-    #[test]
-    fn typed_words_are_numbers_and_hex_digits() {
-        assert_eq!(line_of_texts("sign", &["1", "00aB"]).unwrap(), "sign 1 00AB");
-        assert_eq!(line_of_texts("sign", &["1", ""]).unwrap(), "sign 1 -");
-        assert_eq!(line_of_texts("rng", &["16"]).unwrap(), "rng 16");
-        for wrong in ["XY", "0", "0 ", "-", "é"] {
-            let said = "sign: HEX is no even number of hex digits, and not - for no bytes";
-            refused(line_of_texts("sign", &["1", wrong]), said);
-        }
-        for wrong in ["", "+1", "01", "-0", "1 ", "0x1", "2147483648", "1.0"] {
-            let said = "rng: N is no number from -2147483648 to 2147483647 in decimal digits";
-            refused(line_of_texts("rng", &[wrong]), said);
-        }
-        refused(line_of_texts("rename", &["1"]), "the words are not those of rename ID NAME");
-        let twice = ["1", "format=Raw", "format=Raw"];
-        assert_eq!(line_of_texts("get", &twice).unwrap(), "get 1 format=Raw format=Raw");
-        refused(line_of_texts("sing", &["1"]), "there is no call sing");
-    }
-
-    #[test]
-    fn options_are_words_of_their_own() {
-        let rows: [(&str, &[&str], &str); 11] = [
-            ("sign", &["k", "00", "padding=PSS", "prehashed"], "sign k 00 padding=PSS prehashed"),
-            (
-                "revoke",
-                &["k", "message=a b, c", "since=5"],
-                "revoke k message=a%20b%2C%20c since=5",
-            ),
-            (
-                "create",
-                &["AES", "256", "n", "usage=Encrypt,Decrypt"],
-                "create AES 256 n usage=Encrypt,Decrypt",
-            ),
-            (
-                "locate",
-                &["where", "name=a=b", "state=Active"],
-                "locate where name=a%3Db state=Active",
-            ),
-            ("locate", &["where", "state=Active"], "locate where state=Active"),
-            ("locate", &["type=PrivateKey", "state=x"], "locate where type=PrivateKey state=x"),
-            ("locate", &["state=Active"], "locate state%3DActive"),
-            ("locate", &["where"], "locate where"),
-            ("locate", &["a=b"], "locate a%3Db"),
-            ("locate", &["name"], "locate name"),
-            ("attributes", &["1", "State", "x-y z"], "attributes 1 State x-y%20z"),
-        ];
-        for (name, texts, wanted) in rows {
-            assert_eq!(line_of_texts(name, texts).unwrap(), wanted);
-        }
-        let key = Word::Text("k");
-        let signed = line("sign", &[key, Word::Bytes(b"\0"), Word::Option("padding", "PSS")]);
-        assert_eq!(signed.unwrap(), "sign k 00 padding=PSS");
-        refused(line("get", &[key, Word::Option("hash", "x")]), "get: there is no option hash");
-        refused(
-            line("get", &[key, Word::Option("wrap", "1"), key]),
-            "get: word 3 after it is no option",
-        );
+    fn options_and_numbers_are_texts() {
+        let name = Word::Option("name", "a=b c");
+        assert_eq!(texts("locate", &[name]), ["locate", "where", "name=a=b c"]);
+        let state = Word::Option("state", "Active");
+        assert_eq!(texts("locate", &[state, name])[1..], ["where", "state=Active", "name=a=b c"]);
+        assert_eq!(texts("locate", &[Word::Text("name=x")]), ["locate", "name=x"]);
+        assert_eq!(texts("rng", &[Word::Number(-5)]), ["rng", "-5"]);
+        let hashed = [Word::Text("k"), Word::Bytes(&[]), Word::Option("prehashed", "")];
+        assert_eq!(texts("sign", &hashed), ["sign", "k", "prehashed"]);
+        let contact = [Word::Text("k"), Word::Option("contact", "")];
+        assert_eq!(texts("attribute-add", &contact), ["attribute-add", "k", "contact="]);
     }
 
     #[test]

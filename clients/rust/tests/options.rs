@@ -1,8 +1,9 @@
 //! Calls with options by their types send what the same words send.
 mod ttlv;
 
-use metsuwan::{library, Client, ClientBuilder, Error, Item};
+use metsuwan::library::{self, KmipWord};
 use metsuwan::{AttributeValue, Create, CreateRsa, Get, KeyKind, NewKey, Register, Revoke, Sign};
+use metsuwan::{Client, ClientBuilder, Error, Item};
 use metsuwan::{
     CryptographicAlgorithm, CryptographicUsageMask, HashingAlgorithm, KeyFormatType, ObjectType,
     PaddingMethod, RevocationReasonCode, State,
@@ -55,9 +56,19 @@ fn sent_by<T: Debug>(call: impl Fn(&Client<Recorder>) -> metsuwan::Result<T>) ->
     sent.clone()
 }
 
+/// The request of these words.
+fn request_of(words: &[&str]) -> Vec<u8> {
+    let given: Vec<_> = words.iter().map(|text| KmipWord::text(text)).collect();
+    library::request(&given, &[], None).unwrap_or_else(|_| panic!("{words:?} are no call"))
+}
+
+fn are_words<T: Debug>(words: &[&str], call: impl Fn(&Client<Recorder>) -> metsuwan::Result<T>) {
+    assert!(sent_by(call) == request_of(words), "{words:?}");
+}
+
+/// The same of words that have no spaces.
 fn is_line<T: Debug>(line: &str, call: impl Fn(&Client<Recorder>) -> metsuwan::Result<T>) {
-    let request = library::request(line, None).expect(line);
-    assert!(sent_by(call) == request, "{line}");
+    are_words(&line.split(' ').collect::<Vec<_>>(), call);
 }
 
 #[test]
@@ -103,7 +114,8 @@ fn defaults_are_those_that_are_documented() {
 #[test]
 fn options_of_other_calls() {
     use CryptographicUsageMask as Usage;
-    is_line("revoke k reason=KeyCompromise message=a%20b since=5", |client| {
+    let words = ["revoke", "k", "reason=KeyCompromise", "message=a b", "since=5"];
+    are_words(&words, |client| {
         let why = Revoke::default().with_reason(RevocationReasonCode::KeyCompromise);
         client.revoke_key_with("k", why.with_message("a b").with_since(5))
     });
@@ -120,7 +132,7 @@ fn options_of_other_calls() {
         let uses = uses.with_public_usage(Usage::Encrypt | Usage::WrapKey);
         client.create_rsa_key_pair_with(2048, "a".into(), "b".into(), uses)
     });
-    is_line("attributes k State x-y%20z", |client| {
+    are_words(&["attributes", "k", "State", "x-y z"], |client| {
         client.attributes_with("k", &["State", "x-y z"])
     });
     is_line("attributes k", |client| client.attributes_with("k", &[]));
@@ -134,8 +146,9 @@ fn keys_are_registered() {
     is_line("register symmetric AB format=Raw algorithm=AES length=8", |client| {
         client.register(&aes)
     });
-    let words = "format=Raw algorithm=AES length=8 usage=Encrypt,Decrypt name=a%20b";
-    is_line(&format!("register symmetric AB {words}"), |client| {
+    let words = "register symmetric AB format=Raw algorithm=AES length=8 usage=Encrypt,Decrypt";
+    let words: Vec<_> = words.split(' ').chain(["name=a b"]).collect();
+    are_words(&words, |client| {
         let uses = CryptographicUsageMask::Encrypt | CryptographicUsageMask::Decrypt;
         client.register_with(&aes, Register::default().with_usage(uses).with_name("a b"))
     });
@@ -151,9 +164,9 @@ fn keys_are_registered() {
 #[test]
 fn attributes_have_types() {
     let all = [
-        (AttributeValue::Name("a=b"), "name=a%3Db"),
+        (AttributeValue::Name("a=b"), "name=a=b"),
         (AttributeValue::ObjectGroup("g"), "group=g"),
-        (AttributeValue::ContactInformation(""), "contact=-"),
+        (AttributeValue::ContactInformation(""), "contact="),
         (AttributeValue::ObjectType(ObjectType::PrivateKey), "type=PrivateKey"),
         (AttributeValue::State(State::Active), "state=Active"),
         (AttributeValue::CryptographicAlgorithm(CryptographicAlgorithm::RSA), "algorithm=RSA"),
@@ -174,7 +187,7 @@ fn attributes_have_types() {
         client.locate_with(&all.map(|(value, _)| value))
     });
     is_line("locate", |client| client.locate_with(&[]));
-    is_line("attribute-delete k Object%20Group", |client| {
+    are_words(&["attribute-delete", "k", "Object Group"], |client| {
         client.delete_attribute("k", "Object Group", None)
     });
     is_line("attribute-delete k x-a index=1", |client| {
@@ -190,7 +203,7 @@ fn names_are_those_of_the_library() {
     macro_rules! are_named {
         ($($kind:ident $tag:literal $call:literal)+) => {$(
             let by_name = |value: &$kind| {
-                library::request(&format!($call, value.name()), None).expect(value.name())
+                request_of(&format!($call, value.name()).split(' ').collect::<Vec<_>>())
             };
             let request = by_name(&$kind::ALL[0]);
             for value in $kind::ALL {
@@ -210,8 +223,7 @@ fn names_are_those_of_the_library() {
         made
     }
     fn takes(request: &[u8]) -> bool {
-        let hex: String = request.iter().map(|byte| format!("{byte:02X}")).collect();
-        library::request(&format!("raw {hex}"), None).is_ok()
+        library::request(&[KmipWord::text("raw"), KmipWord::data(request)], &[], None).is_ok()
     }
     are_named! {
         HashingAlgorithm 0x42_0038 "sign k 00 hash={}"
@@ -229,8 +241,7 @@ fn uses_have_the_bits_of_the_library() {
     assert_eq!(CryptographicUsageMask::ALL.len(), 20);
     for (at, usage) in CryptographicUsageMask::ALL.iter().enumerate() {
         assert_eq!(usage.bits(), 1 << at);
-        let line = format!("create AES 256 n usage={usage}");
-        let request = library::request(&line, None).expect(&line);
+        let request = request_of(&["create", "AES", "256", "n", &format!("usage={usage}")]);
         let item = [&[0x42, 0, 0x0B, 2, 0, 0, 0, 4][..], &usage.bits().to_be_bytes()].concat();
         assert!(request.windows(item.len()).any(|window| window == item), "{usage}");
     }

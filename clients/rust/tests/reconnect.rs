@@ -81,6 +81,46 @@ fn an_operation_that_changes_nothing_is_made_again() {
 }
 
 #[test]
+fn so_is_a_call_of_the_table() {
+    let (key, data) = (Word::Text("k"), Word::Bytes(b"x"));
+    let calls: [(&str, u32, &[Word<'_>]); 9] = [
+        ("encrypt", ENCRYPT, &[key, data]),
+        ("decrypt", 0x20, &[key, data]),
+        ("mac", 0x23, &[key, data]),
+        ("mac-verify", 0x24, &[key, data, data]),
+        ("verify", 0x22, &[key, data, data]),
+        ("hash", 0x27, &[data, Word::Option("hash", "SHA_256")]),
+        ("check", 0x09, &[key]),
+        ("attribute-list", 0x0C, &[key]),
+        ("validate", 0x17, &[key, key]),
+    ];
+    for (name, operation, words) in calls {
+        let (client, sent, _) = client(&[&[], &[answer(operation)]]);
+        client.call(name, words).unwrap();
+        // The same request, and so the same ID.
+        let requests = sent.all();
+        assert!(requests.len() == 2 && requests[0] == requests[1], "{name}");
+    }
+    let others: [(&str, &[Word<'_>]); 10] = [
+        ("archive", &[key]),
+        ("recover", &[key]),
+        ("lease", &[key]),
+        ("usage-allocation", &[key, Word::Number(1)]),
+        ("rekey", &[key]),
+        ("rekey-pair", &[key]),
+        ("certify", &[key]),
+        ("rng-seed", &[data]),
+        ("create-key", &[Word::Text("HMAC_SHA256"), Word::Number(256), Word::Text("n")]),
+        ("create-ec", &[Word::Text("P_256"), Word::Text("a"), Word::Text("b")]),
+    ];
+    for (name, words) in others {
+        let (client, sent, _) = client(&[&[], &[]]);
+        assert!(is_read_error(client.call(name, words)), "{name}");
+        assert_eq!(sent.count(), 1, "{name}");
+    }
+}
+
+#[test]
 fn what_may_have_been_done_is_not() {
     for stream in [&[][..], &[Does::RefuseWrite], &[Does::Fail(ErrorKind::ConnectionReset)]] {
         let (client, sent, seen) = client(&[stream, &[answer(ACTIVATE)]]);
@@ -161,12 +201,19 @@ fn a_batch_is_made_again_where_all_of_it_changes_nothing() {
         let other = batch_item(&[1], second, &success(&[identifier("k")]));
         Does::AnswerBatch(response_of_items(&[query, other]))
     };
-    let (client, sent, _) = client(&[&[], &[items(ENCRYPT)]]);
-    let mut batch = client.batch();
-    let payload = vec![Item::new("UniqueIdentifier", "k")];
-    batch.call("query", &[]).unwrap().do_operation("Encrypt", "1.2", payload).unwrap();
-    assert!(batch.send().unwrap().iter().all(Result::is_ok));
-    assert_eq!(sent.count(), 2);
+    for by_words in [false, true] {
+        let (client, sent, _) = client(&[&[], &[items(ENCRYPT)]]);
+        let mut batch = client.batch();
+        batch.call("query", &[]).unwrap();
+        if by_words {
+            batch.call("encrypt", &[Word::Text("k"), Word::Bytes(b"x")]).unwrap();
+        } else {
+            let payload = vec![Item::new("UniqueIdentifier", "k")];
+            batch.do_operation("Encrypt", "1.2", payload).unwrap();
+        }
+        assert!(batch.send().unwrap().iter().all(Result::is_ok));
+        assert_eq!(sent.count(), 2);
+    }
     let (client, sent, _) = self::client(&[&[], &[items(ACTIVATE), Does::Answer(of_query)]]);
     let mut batch = client.batch();
     batch.call("query", &[]).unwrap().call("activate", &[Word::Text("k")]).unwrap();
@@ -197,11 +244,13 @@ fn a_call_that_panics_is_followed_by_another_stream() {
 fn the_log_tells_of_each_call_and_shows_no_value() {
     let no = ttlv::failure(ACTIVATE, 1, "no such key: the key");
     let signed = response(SIGN, &[identifier("the key"), bytes(0x4200C3, b"signature")]);
-    let (client, _, seen) = client(&[&[Does::Answer(signed), Does::Answer(no), answer(ENCRYPT)]]);
+    let does = [Does::Answer(signed), Does::Answer(no), answer(ENCRYPT), answer(ENCRYPT)];
+    let (client, _, seen) = client(&[&does]);
     client.sign("the key", b"the data").unwrap();
     client.activate_key("the key").unwrap_err();
     let items = vec![Item::new("UniqueIdentifier", "the key")];
     client.do_operation("Encrypt", "1.2", items).unwrap();
+    client.call("encrypt", &[Word::Text("the key"), Word::Bytes(b"the data")]).unwrap();
     client.call("sign the key", &[]).unwrap_err();
     client.query().unwrap_err();
     let seen = seen.lock().unwrap();
@@ -214,6 +263,7 @@ fn the_log_tells_of_each_call_and_shows_no_value() {
     assert!(seen[0].3.contains(" bytes sent, ") && seen[0].3.contains(" read, "));
     said(1, "activate", Some("ItemNotFound"), "activate: status 1, ");
     said(2, "Encrypt", None, "Encrypt: status 0, ");
+    said(3, "encrypt", None, "encrypt: status 0, ");
     said(seen.len() - 1, "query", Some("ResponseReadError"), "query: ResponseReadError, ");
     let all: String = seen.iter().map(|event| format!("{event:?}")).collect();
     for secret in ["the key", "the%20key", "the data", "signature"] {

@@ -2,7 +2,8 @@
 mod script;
 mod ttlv;
 
-use metsuwan::{library, Client, ClientBuilder, Item, Word};
+use metsuwan::library::{self, KmipWord};
+use metsuwan::{Client, ClientBuilder, Item, Word};
 use script::{Does, Script, Sent};
 use std::io::ErrorKind;
 use std::sync::{Arc, Mutex};
@@ -53,18 +54,26 @@ fn a_call_is_answered_again() {
     let digits = answer.as_bytes().chunks(2).map(|pair| std::str::from_utf8(pair).unwrap());
     let answer: Vec<u8> = digits.map(|pair| u8::from_str_radix(pair, 16).unwrap()).collect();
     assert_eq!(answer.len(), response(0x12, &[identifier("k")]).len() + 16);
-    let (status, _) = library::answer(&format!("raw {request}"), &answer);
+    let raw = [KmipWord::text("raw"), KmipWord::text(&request)];
+    let (status, _) = library::answer(&raw, &[], &answer);
     assert_eq!(status, library::Status::Answered);
     let seen = seen.lock().unwrap();
     assert!(seen.len() == 2 && seen[0].starts_with(&format!("raw {request} ")));
 }
 
 #[test]
-fn an_operation_that_is_no_call_is_a_message() {
-    let (client, seen) = client(&[done(0x15)]);
+fn what_is_no_call_of_a_script_is_a_message() {
+    let (client, seen) = client(&[done(0x15), done(0x15)]);
     client.do_operation("Archive", "1.0", vec![Item::new("UniqueIdentifier", "k")]).unwrap();
     let [word, request, _] = words(&seen);
     assert_eq!((word.as_str(), request), ("message", asks_for("15")));
+    // By words it is that of KMIP 1.2.
+    client.call("archive", &[Word::Text("k")]).unwrap();
+    let [word, request, answer] = words(&seen);
+    let minor = "42006B0200000004000000";
+    let wanted = asks_for("15").replace(&format!("{minor}00"), &format!("{minor}02"));
+    assert_eq!((word.as_str(), request), ("message", wanted));
+    assert!(answer.contains("4200930800000008"));
 }
 
 #[test]

@@ -82,6 +82,32 @@ fn any_operation() {
 
 #[test]
 #[ignore = "it needs the fake servers"]
+fn calls_of_the_table() {
+    let words = |name| [Word::Text(name), Word::Bytes(b"\0x")];
+    let client = client("ids");
+    let ids = [1, 2].map(|_| client.call("encrypt", &words("k \u{e9}%")).unwrap());
+    for answer in &ids {
+        assert_eq!(answer.text_at("unique_identifier").unwrap(), "k \u{e9}%");
+        assert_eq!(answer.bytes_at("data").unwrap().len(), 8);
+    }
+    assert_ne!(ids[0], ids[1]);
+    for fake in ["no_id", "other_id"] {
+        for name in ["k", "failing"] {
+            let client = self::client(fake);
+            let error = client.call("decrypt", &words(name)).unwrap_err();
+            let text = "OtherObject: Response does not have the request's Unique Batch Item ID";
+            assert!(error.is_lost() && error.to_string() == text, "{error}");
+            assert!(!client.is_open());
+        }
+    }
+    let client = self::client("unread");
+    let error = client.call("archive", &[Word::Text("k")]).unwrap_err();
+    assert!(!error.is_lost() && error.details().message() == Some("not read"), "{error}");
+    assert!(client.is_open());
+}
+
+#[test]
+#[ignore = "it needs the fake servers"]
 fn bytes_that_no_call_asked_for() {
     let text = "the server sent bytes that no call had asked for; nothing was sent";
     for fake in ["two", "trailing"] {
@@ -351,6 +377,9 @@ fn what_changes_nothing_is_made_again() {
     let (client, _) = reconnecting("first_lost", "Rust by operation");
     client.do_operation("MAC", "1.2", payload()).unwrap();
     assert_eq!(came(&client), "3");
+    let (client, _) = reconnecting("first_lost", "Rust by words");
+    client.call("mac", &[Word::Text("k"), Word::Bytes(b"x")]).unwrap();
+    assert_eq!(came(&client), "3");
     let (client, _) = reconnecting("first_lost", "Rust changing");
     assert!(matches!(client.activate_key("k"), Err(Error::ResponseReadError(_))));
     assert!(client.is_open());
@@ -370,6 +399,7 @@ fn several_calls_in_one_message() {
     batch.call("sign", &[Word::Text("k"), Word::Bytes(b"x")]).unwrap();
     batch.do_operation("Archive", "1.2", archive()).unwrap();
     batch.call("get", &[Word::Text("PublicKey.EC")]).unwrap();
+    batch.call("archive", &[Word::Text("a")]).unwrap();
     let answers = batch.send().unwrap();
     let (good, keys) = (self::client("good"), self::client("transparent"));
     let json = |answer: &Result<metsuwan::Answer>| answer.as_ref().unwrap().json().clone();
@@ -378,6 +408,7 @@ fn several_calls_in_one_message() {
     let archived = answers[2].as_ref().unwrap().tree();
     assert_eq!(archived, good.do_operation("Archive", "1.2", archive()).ok());
     assert_eq!(json(&answers[3]), json(&keys.call("get", &[Word::Text("PublicKey.EC")])));
+    assert_eq!(json(&answers[4]), json(&good.call("archive", &[Word::Text("a")])));
     for on_error in [BatchErrorContinuationOption::Stop, BatchErrorContinuationOption::Continue] {
         let mut batch = client.batch().on_error(on_error);
         for name in ["a", "failing", "k"] {

@@ -1,7 +1,8 @@
 //! Calls over a stream whose answers are written down here.
 mod ttlv;
 
-use metsuwan::{library, Client, ClientBuilder, Error, Json, Word};
+use metsuwan::library::{self, KmipWord};
+use metsuwan::{Client, ClientBuilder, Error, Json, Word};
 use std::collections::VecDeque;
 use std::io::{self, Read, Write};
 use std::slice::from_ref;
@@ -128,16 +129,17 @@ fn a_value_by_its_path_is_that_of_the_library() {
     let payload = [vec![evil], key_of(3, 0x42006D, 3, material(b"\x01\xAB"))].concat();
     let response = response(GET, &payload);
     let answer = client(from_ref(&response)).get_key("k").unwrap().answer;
+    let (_, line) = library::answer(&["get", "k"].map(KmipWord::text), &[], &response);
     let block = "cryptographic_object.PublicKey.key_block";
     for path in ["object_type", "unique_identifier", &format!("{block}.key_format_type")] {
-        let wanted = library::value("get k", &response, path, false).unwrap();
+        let wanted = library::value(&line, path, false).unwrap();
         assert_eq!(answer.text_at(path).unwrap().as_bytes(), wanted, "{path}");
     }
     let path = format!("{block}.key_value.key_material.Bytes");
-    assert_eq!(library::value("get k", &response, &path, true), Ok(vec![1, 0xAB]));
+    assert_eq!(library::value(&line, &path, true), Ok(vec![1, 0xAB]));
     assert_eq!(answer.bytes_at(&path).unwrap(), [1, 0xAB]);
     for path in ["", "x", "object_type.x", block] {
-        let none = library::value("get k", &response, path, false);
+        let none = library::value(&line, path, false);
         assert_eq!(none, Err(library::NoValue::Missing), "{path}");
         assert!(is_missing(answer.text_at(path)), "{path}");
     }
@@ -204,7 +206,8 @@ fn a_query_is_one_pass() {
     let response = response(QUERY, &operations);
     let quick = || {
         let started = Instant::now();
-        assert_eq!(library::answer("query", &response).0, library::Status::Answered);
+        let (status, _) = library::answer(&[KmipWord::text("query")], &[], &response);
+        assert_eq!(status, library::Status::Answered);
         let once = started.elapsed();
         let client = client(from_ref(&response));
         let started = Instant::now();

@@ -1,7 +1,7 @@
 """Messages through kmip_ttlv, as bytes, JSON and XML. It prints its checks.
 
     encodings.py KMIP_TTLV FOLDER    those of this folder, ../messages, which were written by hand
-    encodings.py KMIP_TTLV pykmip    those of PyKMIP, of all its operations, to JSON and back
+    encodings.py KMIP_TTLV pykmip    those of PyKMIP, of all its operations, to both and back
 
 A file of the folder has what the message is, its bytes in hex, its JSON and its XML, with an empty
 line between two; lines may begin with spaces, which are no part of them.
@@ -45,18 +45,20 @@ def by_hand(program, folder):
         digits = bytes_.encode()
         same(through(program, ['decode'], digits), joined[0], name + ' as JSON')
         same(through(program, ['decode', 'xml'], digits), joined[1], name + ' as XML')
-        found = through(program, ['encode'], json.encode())
-        same(found, ''.join(bytes_.split()), name + ' of JSON')
+        for form, text in ('JSON', json), ('XML', xml):
+            found = through(program, ['encode'], text.encode())
+            same(found, ''.join(bytes_.split()), '%s of %s' % (name, form))
 
 
 def is_unchanged(program, message):
-    """Whether JSON and back gives the message; and XML is written of it too."""
-    json = through(program, ['decode'], message)
-    back = through(program, ['encode'], json.encode())
-    if back != message.hex().upper() + '\n':
-        print('        %s: %s' % (message.hex().upper(), json[:200]))
-        return False
-    return through(program, ['decode', 'xml'], message).startswith('<Re')
+    """Whether JSON and back, and XML and back, give the message."""
+    for words in ['decode'], ['decode', 'xml']:
+        text = through(program, words, message)
+        back = through(program, ['encode'], text.encode())
+        if back != message.hex().upper() + '\n':
+            print('        %s: %s' % (message.hex().upper(), text[:200]))
+            return False
+    return True
 
 
 def of_pykmip(program):
@@ -65,7 +67,7 @@ def of_pykmip(program):
     for name, made in pykmip.messages():
         operations.add(name.partition(',')[0])
         check(made and all([is_unchanged(program, message) for message in made]),
-              '%d messages of %s through JSON and back are unchanged' % (len(made), name))
+              '%d messages of %s through JSON and XML and back are unchanged' % (len(made), name))
     # (and `failures`)
     check(len(operations) == 29 + 1, 'they are of twenty-nine operations')
 

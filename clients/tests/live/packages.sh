@@ -24,7 +24,7 @@ in_place --built whole --prefix /opt/kmip --destdir 'a stage'
 verdict 'install.sh, below a folder with a space'
 stage="a stage/opt/kmip"
 missing=''
-for file in bin/{kmip_call,kmip_ttlv,kmip.sh,kmip_keys.sh} lib/libmetsuwan{,_tls}.{a,so,so.1} include/metsuwan{,_tls}.h \
+for file in bin/{kmip_call,kmip_ttlv,kmip.sh,kmip_keys.sh} lib/libmetsuwan{,_tls}.{a,so,so.2} include/metsuwan{,_tls}.h \
     lib/pkgconfig/metsuwan{,_tls}.pc lib/ossl-modules/metsuwan.so share/man/man1/{kmip_call,kmip.sh,kmip_ttlv}.1 \
     share/bash-completion/completions/{kmip_call,kmip,kmip_field,kmip_open} share/metsuwan/kmip.html share/doc/metsuwan/LICENSE; do
     [[ -e $stage/$file ]] || missing+=" $file"
@@ -38,7 +38,7 @@ touch "$stage/bin/other"
 in_place uninstall --prefix /opt/kmip --destdir 'a stage' && [[ $(find 'a stage' -not -type d) == "$stage/bin/other" ]]
 verdict 'uninstall takes all of it away, and nothing else'
 in_place --built "$built" --prefix /usr --libdir /usr/lib/x86_64-linux-gnu --destdir multi &&
-    [[ -e multi/usr/lib/x86_64-linux-gnu/libmetsuwan.so.1 && ! -e multi/usr/lib/libmetsuwan.a ]]
+    [[ -e multi/usr/lib/x86_64-linux-gnu/libmetsuwan.so.2 && ! -e multi/usr/lib/libmetsuwan.a ]]
 verdict 'the libraries go where --libdir says'
 if [[ ! -e $built/kmip_ttlv ]]; then says 'what was not built is said to be left out' 'kmip_ttlv is left out: there is no '; fi
 in_place uninstall --prefix /usr --libdir /usr/lib/x86_64-linux-gnu --destdir multi && [[ -z $(find multi -not -type d) ]]

@@ -103,7 +103,7 @@ function segmentIn4(bytes, at, lost) {
   const view = viewOf(bytes), length = view.getUint16(at + 2) || bytes.length - at + lost;
   if (bytes[at + 9] !== 6) return null;
   if (view.getUint16(at + 6) & 0x3fff) return 'it is a fragment of an IP packet';
-  const addresses = [12, 16].map(it => bytes.subarray(at + it, at + it + 4).join('.'));
+  const addresses = [12, 16].map(offset => bytes.subarray(at + offset, at + offset + 4).join('.'));
   return tcpAt(bytes, at + (bytes[at] & 15) * 4, at + length, addresses);
 }
 function segmentIn6(bytes, at, lost) {
@@ -117,15 +117,15 @@ function segmentIn6(bytes, at, lost) {
   }
   if (kind === 44) return 'it is a fragment of an IP packet';
   if (kind !== 6) return null;
-  const word = it => view.getUint16(it).toString(16), words = [0, 2, 4, 6, 8, 10, 12, 14];
-  const addresses = [8, 24].map(it => words.map(x => word(at + it + x)).join(':'));
+  const word = place => view.getUint16(place).toString(16), words = [0, 2, 4, 6, 8, 10, 12, 14];
+  const addresses = [8, 24].map(offset => words.map(x => word(at + offset + x)).join(':'));
   return tcpAt(bytes, from, end, addresses);
 }
 // `size` is how many bytes were sent, of which the capture may have kept the first ones.
 function tcpAt(bytes, at, end, addresses) {
   if (bytes.length < at + 20) return 'its TCP head is cut off';
   const view = viewOf(bytes), from = at + (bytes[at + 12] >> 4) * 4, flags = bytes[at + 13];
-  const ends = addresses.map((it, i) => it + ' port ' + view.getUint16(at + 2 * i));
+  const ends = addresses.map((address, i) => address + ' port ' + view.getUint16(at + 2 * i));
   return { ends, seq: view.getUint32(at + 4), ack: view.getUint32(at + 8), isSyn: (flags & 2) !== 0,
     isAck: (flags & 16) !== 0, size: Math.max(0, end - from), bytes: bytes.subarray(from, end) };
 }
@@ -140,34 +140,38 @@ function readPackets(made, found) {
     else if (segment) addSegment(made, open, all, segment, packet.line);
     else made.others++;
   }
-  for (const it of all) for (const way of it.ways) release(made, it, way, true);
+  for (const connection of all) {
+    for (const way of connection.ways) release(made, connection, way, true);
+  }
   return joined(made, all);
 }
 function addSegment(made, open, all, segment, line) {
   const key = [...segment.ends].sort().join(' '), isNew = segment.isSyn && !segment.isAck;
-  let it = open.get(key);
-  if (!it || (isNew && it.chunks.length)) {
-    it = { ends: segment.ends, client: null, chunks: [], ways: [0, 1].map(() => ({ held: [] })) };
-    open.set(key, it);
-    all.push(it);
+  let connection = open.get(key);
+  if (!connection || (isNew && connection.chunks.length)) {
+    const ways = [0, 1].map(() => ({ held: [] }));
+    connection = { ends: segment.ends, client: null, chunks: [], ways };
+    open.set(key, connection);
+    all.push(connection);
   }
-  const from = it.ends.indexOf(segment.ends[0]), way = it.ways[from], back = it.ways[1 - from];
+  const from = connection.ends.indexOf(segment.ends[0]);
+  const way = connection.ways[from], back = connection.ways[1 - from];
   way.from = from;
   if (segment.isSyn) {
-    it.client = segment.isAck ? 1 - from : from;
+    connection.client = segment.isAck ? 1 - from : from;
     way.next = segment.seq + 1 >>> 0;
   }
   way.next ??= segment.seq;
   if (segment.size && !segment.isSyn) way.held.push({ ...segment, line });
-  release(made, it, way, false);
+  release(made, connection, way, false);
   // What the other end says it has, and the capture has not, is missing.
   if (segment.isAck && back.held.length && isAfter(segment.ack, back.next)) {
-    release(made, it, back, true);
+    release(made, connection, back, true);
   }
 }
 const isAfter = (a, b) => a !== b && (a - b >>> 0) < 0x80000000;
 // Moves what goes on from what was there; with `all`, what comes after a gap too.
-function release(made, it, way, all) {
+function release(made, connection, way, all) {
   way.held.sort((a, b) => (isAfter(a.seq, b.seq) ? 1 : -1));
   while (way.held.length && (all || !isAfter(way.held[0].seq, way.next))) {
     const { seq, size, bytes, line } = way.held.shift();
@@ -175,7 +179,8 @@ function release(made, it, way, all) {
     if (known >= size) continue; // sent once more
     if (isGap) missing(made, line, 'before', seq - way.next >>> 0);
     const part = bytes.subarray(known);
-    if (part.length) it.chunks.push({ way: way.from, bytes: part, line, gap: isGap || way.gap });
+    const gap = isGap || way.gap;
+    if (part.length) connection.chunks.push({ way: way.from, bytes: part, line, gap });
     way.gap = bytes.length < size;
     if (way.gap) missing(made, line, 'of', size - Math.max(known, bytes.length));
     way.next = seq + size >>> 0;
@@ -185,14 +190,15 @@ function missing(made, line, where, count) {
   made.left.push({ line, why: counted(count, 'byte') + ' ' + where + ' this packet are missing' });
 }
 
+const firstOf = ({ chunks }, way) => chunks.find(chunk => chunk.way === way)?.bytes || NONE;
 // The chunks of those connections that have KMIP in them.
 function joined(made, all) {
-  const first = (it, way) => it.chunks.find(chunk => chunk.way === way)?.bytes || NONE;
-  const isTls = it => [0, 1].some(way => first(it, way)[0] === 22 && first(it, way)[1] === 3);
-  const isKmip = it => [0, 1].some(way => beginsMessage(first(it, way)));
-  const full = all.filter(it => it.chunks.length), kmip = full.filter(isKmip);
+  const isTls = connection => [0, 1].map(way => firstOf(connection, way))
+    .some(bytes => bytes[0] === 22 && bytes[1] === 3);
+  const isKmip = connection => [0, 1].some(way => beginsMessage(firstOf(connection, way)));
+  const full = all.filter(connection => connection.chunks.length), kmip = full.filter(isKmip);
   if (!kmip.length) throw new Error(noKmip(made, full, full.filter(isTls).length));
-  for (const it of kmip) addConnection(made, it, first);
+  for (const connection of kmip) addConnection(made, connection);
   const others = full.length - kmip.length, secret = full.filter(isTls).length;
   const none = counted(others, 'other connection') + ' without KMIP';
   if (others) made.notes.push(none + (secret ? ', of which ' + secret + ' by TLS' : ''));
@@ -203,12 +209,14 @@ function noKmip(made, full, secret) {
     + ' no unencrypted KMIP was found';
   return found + (secret ? '; ' + secret + ' of them by TLS, which the page does not read.' : '.');
 }
-function addConnection(made, it, first) {
-  const client = [0, 1].find(way => beginsMessage(first(it, way), 0x78))
-    ?? (beginsMessage(first(it, 0), 0x7b) ? 1 : beginsMessage(first(it, 1), 0x7b) ? 0 : it.client);
-  made.notes.push('client ' + it.ends[client] + ', server ' + it.ends[1 - client]);
+function addConnection(made, connection) {
+  const firsts = [0, 1].map(way => firstOf(connection, way));
+  const asking = firsts.findIndex(bytes => beginsMessage(bytes, 0x78));
+  const answering = firsts.findIndex(bytes => beginsMessage(bytes, 0x7b));
+  const client = asking >= 0 ? asking : answering >= 0 ? 1 - answering : connection.client;
+  made.notes.push('client ' + connection.ends[client] + ', server ' + connection.ends[1 - client]);
   let begins = true;
-  for (const { way, bytes, line, gap } of it.chunks) {
+  for (const { way, bytes, line, gap } of connection.chunks) {
     made.chunks.push({ side: way === client ? 'sent' : 'received', bytes, line, gap, begins });
     begins = false;
   }

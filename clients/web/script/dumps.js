@@ -16,17 +16,18 @@ function rowOf(line) {
   const part = isXxd ? rest.split('  ')[0] : isOd ? rest.split('  >')[0] : rest.slice(0, COLUMNS);
   const groups = part.trim().split(/\s+/);
   const made = { side: indent ? 'received' : 'sent', offset, isOd, digits: groups.join('') };
-  if (isOd && groups.some(it => it.length > 2)) made.why = WORDS;
-  else if (!isXxd && groups.some(it => it.length !== 2)) made.why = 'a byte has not two digits';
-  else made.why = whyNoHex(made.digits);
+  if (isOd && groups.some(group => group.length > 2)) made.why = WORDS;
+  else if (!isXxd && groups.some(group => group.length !== 2)) {
+    made.why = 'a byte has not two digits';
+  } else made.why = whyNoHex(made.digits);
   return made;
 }
 const isFirst = line => FIRST.test(line) && !rowOf(line)?.why;
 // In which base the offsets are: that in which the second row begins where the first one ends.
 function baseOf(rows) {
-  const [first, second] = rows.filter(it => it && !it.why);
+  const [first, second] = rows.filter(row => row && !row.why);
   if (!second || !first.isOd) return 16;
-  const fits = it => parseInt(second.offset, it) === first.digits.length / 2;
+  const fits = base => parseInt(second.offset, base) === first.digits.length / 2;
   return [16, 8, 10].find(fits) || 16;
 }
 const dumps = {
@@ -39,7 +40,7 @@ const dumps = {
     for (const side of SIDES) closeDump(state, side);
     made.chunks.sort((a, b) => a.line - b.line);
     if (state.sides.received) return turned(made);
-    return { ...made, chunks: made.chunks.map(it => ({ ...it, side: null })) };
+    return { ...made, chunks: made.chunks.map(chunk => ({ ...chunk, side: null })) };
   },
 };
 function readRow(state, row, line, number) {
@@ -101,7 +102,7 @@ const PACKET_ROW = /^([0-9a-f]{4})  ((?:[0-9a-f]{2} {1,2}){1,16})/i;
 const OTHER_BLOCK = /^(?!Frame)\S.* \(\d+ bytes\):$/; // put together, as Reassembled TCP
 const packets = {
   form: "packets of tshark -x",
-  fits: lines => lines.some(it => PACKET_ROW.test(it + ' ') && it.startsWith('0000')),
+  fits: lines => lines.some(line => PACKET_ROW.test(line + ' ') && line.startsWith('0000')),
   read(lines) {
     const blocks = [], made = reading(this.form, BY_STREAM);
     let at = null, isOther = false;
@@ -112,7 +113,7 @@ const packets = {
       else if (isOther) made.others++;
       else at = addPacketRow(made, blocks, at, row, i + 1);
     });
-    return readBlocks(made, blocks.map(it => ({ ...it, bytes: decoded(it.digits) })));
+    return readBlocks(made, blocks.map(block => ({ ...block, bytes: decoded(block.digits) })));
   },
 };
 function addPacketRow(made, blocks, at, [, offset, digits], line) {
@@ -127,17 +128,16 @@ function addPacketRow(made, blocks, at, [, offset, digits], line) {
 }
 // A block is a message, or a packet of any of the links that tshark captures from.
 function readBlocks(made, blocks) {
-  const isMessage = it => it.bytes[0] === 0x42 && it.bytes[1] === 0 && it.bytes[3] === 1;
+  const isMessage = ({ bytes }) => bytes[0] === 0x42 && bytes[1] === 0 && bytes[3] === 1;
   if (!blocks.some(isMessage)) {
-    const found = blocks.map(it => ({ bytes: it.bytes, size: it.bytes.length, line: it.line,
-      link: linkOf(it.bytes) }));
-    return readPackets(made, found);
+    return readPackets(made, blocks.map(({ bytes, line }) => ({ bytes, size: bytes.length, line,
+      link: linkOf(bytes) })));
   }
-  for (const it of blocks) {
-    if (isMessage(it)) {
-      const side = it.bytes[2] === 0x78 ? 'sent' : 'received';
-      made.chunks.push({ side, bytes: it.bytes, line: it.line });
-    } else made.left.push({ line: it.line, why: 'these bytes are no message' });
+  for (const block of blocks) {
+    if (isMessage(block)) {
+      const side = block.bytes[2] === 0x78 ? 'sent' : 'received';
+      made.chunks.push({ side, bytes: block.bytes, line: block.line });
+    } else made.left.push({ line: block.line, why: 'these bytes are no message' });
   }
   made.pairing = BY_ORDER;
   return made;

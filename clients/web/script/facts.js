@@ -37,8 +37,8 @@ const factsAt = message => (message?.bytes.length ? factsOf(message.bytes) : NOT
 // Operations of a batch are named once each, with how many there are.
 function operationsOf(names) {
   const counts = new Map();
-  for (const it of names) counts.set(it, (counts.get(it) || 0) + 1);
-  return [...counts].map(([it, count]) => (count > 1 ? it + ' ×' + count : it)).join(', ');
+  for (const name of names) counts.set(name, (counts.get(name) || 0) + 1);
+  return [...counts].map(([name, count]) => (count > 1 ? name + ' ×' + count : name)).join(', ');
 }
 // The facts of a row, which are kept with it.
 function rowFacts(row) {
@@ -55,10 +55,10 @@ function rowFacts(row) {
 // What an exchange came to: the words of the report where both sides may have messages, and the
 // statuses of a response that stands alone.
 function outcomeOf(row, received) {
-  const torn = SIDES.map(side => tornWords(row[side], side)).filter(it => it);
+  const torn = SIDES.map(side => tornWords(row[side], side)).filter(Boolean);
   if (torn.length) return { outcome: torn.join(', '), isGood: false };
   if (!row.isPaired || row.sent?.call) {
-    const isGood = received.statuses.every(it => it === 'Success');
+    const isGood = received.statuses.every(status => status === 'Success');
     return { outcome: operationsOf(received.statuses), isGood };
   }
   const both = SIDES.map(side => row[side]?.bytes || NONE), guess = 65536 + both[0].length;

@@ -4,8 +4,8 @@ const fields = { sent: null, received: null };
 const LONGEST = 100000; // characters that a field shows: with more it is slow
 const loads = { next: 0, last: {} };
 const chunksAt = side => (fields[side]?.chunks || [])
-  .map(it => ({ ...it, side: it.side || side, unit: fields[side].unit }));
-const sidesAt = side => new Set(chunksAt(side).map(it => it.side));
+  .map(chunk => ({ ...chunk, side: chunk.side || side, unit: fields[side].unit }));
+const sidesAt = side => new Set(chunksAt(side).map(chunk => chunk.side));
 
 const NAMED_FILES = [[[0x1f, 0x8b], 'a gzip file: unpack it first'],
   [[0x50, 0x4b, 3, 4], 'a zip file: unpack it first'], [[0x28, 0xb5, 0x2f, 0xfd],
@@ -22,7 +22,7 @@ function textIn(bytes) {
   }
 }
 function readGiven(bytes) {
-  const named = NAMED_FILES.find(([head]) => head.every((it, i) => bytes[i] === it));
+  const named = NAMED_FILES.find(([head]) => head.every((byte, i) => bytes[i] === byte));
   if (named) throw new Error('This is ' + named[1] + '.');
   if (isCapture(bytes)) return readCapture(bytes);
   const text = textIn(bytes);
@@ -34,7 +34,7 @@ function readGiven(bytes) {
 function readOrSay(read) {
   try {
     const made = read();
-    if (made.chunks.some(it => it.bytes.length)) return made;
+    if (made.chunks.some(chunk => chunk.bytes.length)) return made;
     return { ...made, chunks: [], failed: 'Nothing in it could be read.' };
   } catch (error) {
     return { ...reading('', BY_PLACES), failed: reasonOf(error) };
@@ -47,15 +47,15 @@ function put(side, number, made, name) {
   if (loads.last[side] !== number) return;
   fields[side] = { ...made, number, name };
   if (name) $(side).placeholder = name;
-  const other = SIDES.find(it => it !== side), theirs = sidesAt(other), mine = sidesAt(side);
-  if ([...mine].some(it => theirs.has(it))) {
+  const other = otherThan(side), theirs = sidesAt(other);
+  if ([...sidesAt(side)].some(mine => theirs.has(mine))) {
     empty(fields[other].number < number ? other : side);
   }
-  for (const it of SIDES) if (!fields[it]) sayWhere(it);
+  for (const field of SIDES) if (!fields[field]) sayWhere(field);
   show();
 }
 function sayWhere(side) {
-  const other = SIDES.find(it => it !== side), isThere = sidesAt(other).has(side);
+  const isThere = sidesAt(otherThan(side)).has(side);
   $(side).placeholder = isThere ? 'what is shown is from the other field' : '';
 }
 function empty(side) {
@@ -101,7 +101,7 @@ async function takeFiles(side, files) {
   const firsts = await Promise.all(files.map(firstBytes));
   const isTurned = beginsMessage(firsts[0], 0x7b) || beginsMessage(firsts[1], 0x78);
   const order = isTurned ? [files[1], files[0]] : files;
-  return Promise.all(SIDES.map((it, i) => takeFile(it, order[i])));
+  return Promise.all(SIDES.map((field, i) => takeFile(field, order[i])));
 }
 async function firstBytes(file) {
   try {
@@ -117,7 +117,7 @@ function show() {
   $('out').replaceChildren();
   $('left').replaceChildren();
   const start = performance.now(), chunks = SIDES.flatMap(chunksAt);
-  const held = SIDES.filter(it => fields[it]);
+  const held = SIDES.filter(side => fields[side]);
   document.body.classList.toggle('empty', !held.length);
   if (!page.wasm || !held.length) {
     $('summary').textContent = '';
@@ -134,16 +134,16 @@ function show() {
   $('took').textContent = Math.round(performance.now() - start) + ' ms';
 }
 function rowsOfFields(chunks) {
-  const [first, second] = SIDES.filter(it => fields[it]?.chunks.length);
+  const [first, second] = SIDES.filter(side => fields[side]?.chunks.length);
   const rows = rowsOf(messagesOf(chunks), second ? BY_PLACES : fields[first].pairing);
-  const isPaired = SIDES.every(side => rows.some(it => it[side]));
-  for (const it of rows) it.isPaired = isPaired;
+  const isPaired = SIDES.every(side => rows.some(row => row[side]));
+  for (const row of rows) row.isPaired = isPaired;
   return rows;
 }
 // The summary: what each field holds, how much of it there is, and what was left out.
 function sayRead(held, rows, chunks) {
   const lines = held.map(side => sourceWords(fields[side], SIDES.length === held.length && side));
-  const size = side => ofSide(chunks, side).reduce((sum, it) => sum + it.bytes.length, 0);
+  const size = side => ofSide(chunks, side).reduce((sum, { bytes }) => sum + bytes.length, 0);
   const sizes = SIDES.filter(size).map(side => counted(size(side), 'byte') + ' ' + side);
   if (rows.length) {
     const what = rows[0].isPaired ? 'exchange' : 'message';
@@ -165,8 +165,8 @@ function drawLeft({ left, unit }) {
   if (!left.length) return;
   const made = element('details', 'left', '', element('summary', '', 'What was left out, and why'));
   const list = element('ul');
-  for (const it of left.slice(0, MOST)) {
-    list.append(element('li', '', unit + ' ' + it.line + ': ' + it.why));
+  for (const { line, why } of left.slice(0, MOST)) {
+    list.append(element('li', '', unit + ' ' + line + ': ' + why));
   }
   const more = left.length - MOST;
   if (more > 0) list.append(element('li', '', 'and ' + grouped(more) + ' more'));

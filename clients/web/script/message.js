@@ -10,7 +10,7 @@ function attribute(name, value) {
   if (/[\0-\x08\x0b\x0c\x0e-\x1f\ufffe\uffff]/.test(text)) {
     throw new Error('XML cannot hold a control character of this message.');
   }
-  return ' ' + name + '="' + text.replace(/[&<>"\t\n\r]/g, it => XML_OF[it]) + '"';
+  return ' ' + name + '="' + text.replace(/[&<>"\t\n\r]/g, char => XML_OF[char]) + '"';
 }
 function xmlValue(type, value) {
   if (type === 'BigInteger') return value.replace(/^0x/, '');
@@ -24,7 +24,7 @@ function xmlOf({ tag, type, value }, indent = '') {
   if (type) {
     return head + attribute('type', type) + attribute('value', xmlValue(type, value)) + '/>\n';
   }
-  const inside = value.map(it => xmlOf(it, indent + '  ')).join('');
+  const inside = value.map(item => xmlOf(item, indent + '  ')).join('');
   return inside ? head + '>\n' + inside + indent + '</' + name + '>\n' : head + '/>\n';
 }
 const jsonOf = bytes => textFrom('web_decode', [bytes], 65536 + 4 * bytes.length);
@@ -74,14 +74,14 @@ function copyBar(message, isItem) {
 }
 // The JSON with offsets. A character that turns the direction of a text round is escaped.
 const TURNS = /[\u061c\u200e\u200f\u202a-\u202e\u2066-\u2069]/g;
-const escapedTurn = it => '\\u' + it.charCodeAt(0).toString(16).toUpperCase().padStart(4, '0');
+const escapedTurn = char => '\\u' + char.charCodeAt(0).toString(16).toUpperCase().padStart(4, '0');
 function jsonFold(bytes) {
   const inside = element('pre');
   const made = element('details', 'json', '',
     element('summary', '', 'JSON with offsets, and with all values'), inside);
   made.addEventListener('toggle', () => {
     if (inside.firstChild) return;
-    const lines = jsonOf(bytes).replace(OFFSET, (it, at) => (at ? '\n' : '') + it);
+    const lines = jsonOf(bytes).replace(OFFSET, (offset, at) => (at ? '\n' : '') + offset);
     inside.append(textOf(lines.replace(TURNS, escapedTurn)));
   });
   return made;
@@ -103,14 +103,14 @@ function viewBar(tree, sides) {
 // A message, or bytes that are none: its skeleton, its tree, and where it stops being items.
 function drawMessage(message) {
   const { bytes } = message, fault = faultOf(bytes), tree = treeOf(bytes, fault.at);
-  const isOne = message.isWhole || (tree && tree.it.ends[0] === tree.it.lines.length);
+  const isOne = message.isWhole || (tree && tree.listing.ends[0] === tree.listing.lines.length);
   const isItem = !fault.why && isOne;
   const made = element('div', 'message', '', titleBar(message), copyBar(message, isItem));
   made.append(drawSkeleton(bytes));
   if (tree) {
     const sides = element('div', 'sides', '', tree);
     made.append(viewBar(tree, sides), sides);
-    listRest(tree.it, sides);
+    listRest(tree.listing, sides);
   }
   if (isItem) made.append(jsonFold(bytes));
   if (fault.why) {
@@ -134,17 +134,17 @@ function drawSkeleton(bytes) {
 }
 // What a row has at a side: a message, or why there is none.
 function drawSide(row, side) {
-  const it = row[side], name = side === 'sent' ? 'Sent' : 'Received';
-  if (!it) return element('p', 'dim', 'Nothing was ' + side + '.');
-  if (it.call) {
-    return element('p', 'dim', name + ': the record has no bytes of the call ' + it.call);
+  const message = row[side], name = side === 'sent' ? 'Sent' : 'Received';
+  if (!message) return element('p', 'dim', 'Nothing was ' + side + '.');
+  if (message.call) {
+    return element('p', 'dim', name + ': the record has no bytes of the call ' + message.call);
   }
-  if (it.damaged) {
-    const place = name + ', ' + it.unit + ' ' + it.line;
-    return element('p', 'bad', place + ', is left out: ' + it.damaged + '.');
+  if (message.damaged) {
+    const place = name + ', ' + message.unit + ' ' + message.line;
+    return element('p', 'bad', place + ', is left out: ' + message.damaged + '.');
   }
   try {
-    return drawMessage(it);
+    return drawMessage(message);
   } catch (error) {
     return element('p', 'bad error', name + ': ' + reasonOf(error));
   }

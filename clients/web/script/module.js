@@ -3,6 +3,7 @@
 // that the module returned.
 const MODULE = '{{MODULE}}', ABOUT = '{{ABOUT}}';
 const SIDES = ['sent', 'received'];
+const otherThan = side => SIDES[side === 'sent' ? 1 : 0];
 const NONE = new Uint8Array(0);
 const ENCODER = new TextEncoder(), DECODER = new TextDecoder();
 const page = { wasm: null };

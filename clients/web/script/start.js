@@ -17,7 +17,7 @@ for (const side of SIDES) {
 const sideAt = event => event.target.closest?.('[data-side]')?.dataset.side || 'sent';
 function markDrop(side) {
   document.body.classList.toggle('over', side !== null);
-  for (const it of SIDES) $(it).classList.toggle('over', it === side);
+  for (const field of SIDES) $(field).classList.toggle('over', field === side);
 }
 document.addEventListener('dragover', event => {
   event.preventDefault();
@@ -48,7 +48,7 @@ $('example').onclick = () => {
 };
 async function start() {
   try {
-    const bytes = Uint8Array.from(atob(MODULE), it => it.charCodeAt(0));
+    const bytes = Uint8Array.from(atob(MODULE), char => char.charCodeAt(0));
     page.wasm = (await WebAssembly.instantiate(bytes, {})).instance.exports;
     $('state').textContent = ABOUT + ' The page fetches nothing, and keeps nothing.';
   } catch (error) {

@@ -9,13 +9,13 @@ const HEAD = 8;
 function messagesOf(chunks) {
   const state = { found: [], open: {}, at: { sent: 0, received: 0 }, session: 0 };
   chunks.forEach((chunk, order) => addChunk(state, { ...chunk, order }));
-  for (const side of SIDES) close(state, side);
+  closeBoth(state);
   return state.found.sort((a, b) => a.order - b.order);
 }
 function addChunk(state, chunk) {
   const { side, bytes, line, unit, order, damaged, call } = chunk;
   if (chunk.begins) {
-    for (const it of SIDES) close(state, it);
+    closeBoth(state);
     state.session++;
   }
   const open = state.open[side], from = state.at[side];
@@ -40,30 +40,33 @@ function close(state, side) {
   if (open?.size) addMessage(state, open, together(open), { isWhole: false });
   state.open[side] = null;
 }
+function closeBoth(state) {
+  for (const side of SIDES) close(state, side);
+}
 function cut(state, side) {
-  for (let it = state.open[side]; it && it.size >= it.need; it = state.open[side]) {
-    const bytes = together(it), size = sizeByHead(bytes);
-    if (size < 0) it.need = Infinity;
-    else if (size > bytes.length) it.need = size;
+  for (let open = state.open[side]; open && open.size >= open.need; open = state.open[side]) {
+    const bytes = together(open), size = sizeByHead(bytes);
+    if (size < 0) open.need = Infinity;
+    else if (size > bytes.length) open.need = size;
     else {
-      addMessage(state, it, bytes.subarray(0, size), { isWhole: true });
+      addMessage(state, open, bytes.subarray(0, size), { isWhole: true });
       const rest = bytes.subarray(size);
-      state.open[side] = rest.length ? { ...it, parts: [rest], size: rest.length, need: HEAD,
-        from: it.from + size } : null;
+      state.open[side] = rest.length ? { ...open, parts: [rest], size: rest.length, need: HEAD,
+        from: open.from + size } : null;
     }
   }
 }
-function together(it) {
-  if (it.parts.length > 1) {
-    const all = new Uint8Array(it.size);
+function together(open) {
+  if (open.parts.length > 1) {
+    const all = new Uint8Array(open.size);
     let at = 0;
-    for (const part of it.parts) {
+    for (const part of open.parts) {
       all.set(part, at);
       at += part.length;
     }
-    it.parts = [all];
+    open.parts = [all];
   }
-  return it.parts[0];
+  return open.parts[0];
 }
 
 // Rows. By places, the messages at the same place of both sides stand together. By their order,
@@ -72,20 +75,20 @@ function together(it) {
 // goes by places, and by its order where a message of it is damaged.
 function rowsOf(messages, pairing) {
   const sessions = new Map();
-  for (const it of messages) {
-    if (!sessions.has(it.session)) sessions.set(it.session, []);
-    sessions.get(it.session).push(it);
+  for (const message of messages) {
+    if (!sessions.has(message.session)) sessions.set(message.session, []);
+    sessions.get(message.session).push(message);
   }
-  return [...sessions.values()].flatMap(it => {
-    const isByOrder = pairing === BY_ORDER || (pairing === BY_STREAM && isDamaged(it));
-    return isByOrder ? byOrder(it) : byPlaces(it, 0);
+  return [...sessions.values()].flatMap(session => {
+    const isByOrder = pairing === BY_ORDER || (pairing === BY_STREAM && isDamaged(session));
+    return isByOrder ? byOrder(session) : byPlaces(session, 0);
   });
 }
 function isDamaged(messages) {
-  const last = SIDES.map(side => messages.findLast(it => it.side === side));
-  return messages.some(it => !it.isWhole && !last.includes(it));
+  const last = SIDES.map(side => messages.findLast(message => message.side === side));
+  return messages.some(message => !message.isWhole && !last.includes(message));
 }
-const ofSide = (messages, side) => messages.filter(it => it.side === side);
+const ofSide = (messages, side) => messages.filter(message => message.side === side);
 function byPlaces(messages, skipped) {
   const sent = ofSide(messages, 'sent'), received = ofSide(messages, 'received');
   const count = Math.max(sent.length, received.length + skipped);
@@ -94,22 +97,22 @@ function byPlaces(messages, skipped) {
 }
 function byOrder(messages) {
   const blocks = [];
-  for (const it of messages) {
+  for (const message of messages) {
     const last = blocks.at(-1);
-    if (!last || (it.side === 'sent' && last.at(-1).side !== 'sent')) blocks.push([it]);
-    else last.push(it);
+    if (!last || (message.side === 'sent' && last.at(-1).side !== 'sent')) blocks.push([message]);
+    else last.push(message);
   }
-  return blocks.flatMap(it => {
-    const more = ofSide(it, 'sent').length - ofSide(it, 'received').length;
-    return byPlaces(it, more > 0 && more < it.length ? more : 0);
+  return blocks.flatMap(block => {
+    const more = ofSide(block, 'sent').length - ofSide(block, 'received').length;
+    return byPlaces(block, more > 0 && more < block.length ? more : 0);
   });
 }
 // A capture or a dump does not say who is the client: where what was sent begins as a response
 // does, and what was received does not, the sides are the other way round.
 function turned(made) {
-  const first = side => made.chunks.find(it => it.side === side && it.bytes.length)?.bytes || NONE;
+  const first = side => ofSide(made.chunks, side).find(({ bytes }) => bytes.length)?.bytes || NONE;
   const isTurned = beginsMessage(first('sent'), 0x7b) && !beginsMessage(first('received'), 0x7b);
   if (!isTurned) return made;
-  const chunks = made.chunks.map(it => ({ ...it, side: SIDES[it.side === 'sent' ? 1 : 0] }));
+  const chunks = made.chunks.map(chunk => ({ ...chunk, side: otherThan(chunk.side) }));
   return { ...made, chunks, notes: [...made.notes, 'the side that answers stands first'] };
 }

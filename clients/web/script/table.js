@@ -5,14 +5,14 @@ const table = { rows: [], opened: new Map(), body: null };
 
 function drawTable(rows) {
   Object.assign(table, { rows, opened: new Map(), body: element('tbody') });
-  const heads = COLUMNS_OF.map(it => {
-    const made = element('th', '', it);
+  const heads = COLUMNS_OF.map(name => {
+    const made = element('th', '', name);
     made.scope = 'col';
     return roleOf(made, 'columnheader');
   });
   const head = roleOf(element('tr', '', '', ...heads), 'row');
   const made = element('table', '', '', element('thead', '', '', head), table.body);
-  for (const it of [made.tHead, table.body]) roleOf(it, 'rowgroup');
+  for (const group of [made.tHead, table.body]) roleOf(group, 'rowgroup');
   $('out').append(searchBar(), element('p', 'found'), roleOf(made, 'table'));
   find('');
 }
@@ -32,7 +32,7 @@ function searchBar() {
 // Draws the rows that have all of the words: as #12 its number, as any other word a part of what
 // the row shows, of names and numbers of tags, or of a value that is not hidden.
 function find(text) {
-  const words = text.toLowerCase().split(/\s+/).filter(it => it);
+  const words = text.toLowerCase().split(/\s+/).filter(Boolean);
   const state = { words, next: 0, found: 0, room: ROWS };
   table.body.replaceChildren();
   run(state);
@@ -66,8 +66,8 @@ function hasWords(i, words) {
   if (!words.length) return true;
   const { operation, about, outcome, time, call, words: inside } = rowFacts(table.rows[i]);
   const shown = ['#' + (i + 1), operation, about, outcome, time, call].join('\n').toLowerCase();
-  return words.every(it => (/^#\d+$/.test(it) ? it === '#' + (i + 1)
-    : shown.includes(it) || inside.includes(it)));
+  return words.every(word => (/^#\d+$/.test(word) ? word === '#' + (i + 1)
+    : shown.includes(word) || inside.includes(word)));
 }
 function said(state, isOver) {
   const line = $('out').querySelector('.found'), left = table.rows.length - state.next;
@@ -78,8 +78,8 @@ function said(state, isOver) {
         + (left ? looked : '');
   if (!isOver || !left) return;
   const label = 'more: ' + grouped(left) + ' are left';
-  const made = button(label, it => {
-    it.closest('tr').remove();
+  const made = button(label, () => {
+    made.closest('tr').remove();
     state.room = ROWS;
     run(state);
   });
@@ -98,9 +98,9 @@ function rowOfTable(i) {
   const cells = [open, element('b', '', operation || (call ? call.split(' ')[0] : '')),
     textOf(about || call.split(' ').slice(1).join(' ')),
     element('span', isGood ? 'good' : 'bad', outcome), element('span', 'time', time)];
-  made.append(...cells.map((it, at) => {
+  made.append(...cells.map((inside, at) => {
     const cell = roleOf(element('td', COLUMNS_OF[at].toLowerCase().replace('#', 'number')), 'cell');
-    cell.append(it);
+    cell.append(inside);
     return cell;
   }));
   made.onclick = () => {

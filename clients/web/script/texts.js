@@ -12,7 +12,7 @@ function reading(form, pairing) {
 }
 // Hex digits with gaps between them, and why they are no bytes, if so.
 const IS_GAP = new Uint8Array(256);
-for (const it of '\t\n\v\f\r :,') IS_GAP[it.charCodeAt(0)] = 1;
+for (const char of '\t\n\v\f\r :,') IS_GAP[char.charCodeAt(0)] = 1;
 function digitsOf(text) {
   const bytes = ENCODER.encode(text.replace(/^\s*0x/i, ''));
   let count = 0;
@@ -46,8 +46,8 @@ function markOf(line) {
 }
 const marks = {
   form: 'a log with lines > and <',
-  fits: lines => lines.some(it => {
-    const mark = markOf(it);
+  fits: lines => lines.some(line => {
+    const mark = markOf(line);
     return mark && !whyNoHex(digitsOf(mark.digits));
   }),
   read(lines) {
@@ -75,7 +75,7 @@ function callOf(line) {
 }
 const records = {
   form: 'a script of calls with their recorded responses',
-  fits: lines => lines.some(it => callOf(it)),
+  fits: lines => lines.some(callOf),
   read(lines) {
     const made = reading(this.form, BY_ORDER);
     lines.forEach((line, i) => {
@@ -103,10 +103,10 @@ const isHex = line => /^(?:0x)?[0-9a-f]+$/i.test(line);
 const tails = {
   form: 'lines that end with a message',
   fits(lines) {
-    const full = lines.filter(it => it.trim()), found = full.map(lastOf);
-    if (!found.some(it => it)) return false;
+    const full = lines.filter(line => line.trim()), found = full.map(lastOf);
+    if (!found.some(Boolean)) return false;
     if (!full.every(isHex)) return true;
-    return found.every(it => it) && new Set(found.map(it => it.slice(4, 6).toLowerCase())).size > 1;
+    return found.every(Boolean) && new Set(found.map(sideOf)).size > 1;
   },
   read(lines) {
     const made = reading(this.form, BY_ORDER);
@@ -123,10 +123,10 @@ const tails = {
 const audit = {
   form: 'a script of kmip_run audit',
   fits(lines) {
-    const full = lines.filter(it => it.trim());
-    const isSide = (it, head) => it === '-' || (isHex(it) && it.startsWith(head));
+    const full = lines.filter(line => line.trim());
+    const isSide = (line, head) => line === '-' || (isHex(line) && line.startsWith(head));
     return full.length === 2 && isSide(full[0], '420078') && isSide(full[1].toUpperCase(), '42007B')
-      && full.some(it => it !== '-');
+      && full.some(line => line !== '-');
   },
   read(lines) {
     const made = reading(this.form, BY_PLACES);
@@ -146,8 +146,9 @@ const HEADER = /^(?:=+|Follow: .*|Filter: .*|Node \d: .*)$/;
 const RAW = /^(\t?)([0-9a-f]+)$/i;
 const followed = {
   form: "tshark's follow,tcp,raw",
-  fits: lines => lines.some(it => /^Follow: \w+,raw$/.test(it))
-    || (lines.some(it => /^\t[0-9a-f]{8,}$/i.test(it)) && lines.every(it => !it || RAW.test(it))),
+  fits: lines => lines.some(line => /^Follow: \w+,raw$/.test(line))
+    || (lines.some(line => /^\t[0-9a-f]{8,}$/i.test(line))
+      && lines.every(line => !line || RAW.test(line))),
   read(lines) {
     const made = reading(this.form, BY_STREAM);
     lines.forEach((line, i) => {
@@ -165,23 +166,23 @@ const ARRAY = /([A-Za-z_]\w*)?\s*(?:\[[^\]]*\])?\s*=?\s*\{([^{}]*)\}/g;
 const lineAt = (text, at) => text.slice(0, at).split('\n').length;
 const arrays = {
   form: 'arrays of C',
-  fits: lines => lines.some(it => /0x[0-9a-f]{1,2}u?\s*,\s*(?:0x|$)/i.test(it)),
+  fits: lines => lines.some(line => /0x[0-9a-f]{1,2}u?\s*,\s*(?:0x|$)/i.test(line)),
   read(lines) {
-    const made = reading(this.form, BY_STREAM), blank = it => it.replace(/[^\n]/g, ' ');
+    const made = reading(this.form, BY_STREAM), blank = comment => comment.replace(/[^\n]/g, ' ');
     const text = lines.join('\n').replace(/\/\*[\s\S]*?\*\/|\/\/.*/g, blank);
     const found = [...text.matchAll(ARRAY)];
     if (!found.length) addArray(made, null, text, 1);
-    for (const it of found) {
-      const peer = /^peer([01])_/.exec(it[1] || '');
-      addArray(made, peer ? SIDES[peer[1]] : null, it[2], lineAt(text, it.index));
+    for (const { 1: name = '', 2: inside, index } of found) {
+      const peer = /^peer([01])_/.exec(name);
+      addArray(made, peer ? SIDES[peer[1]] : null, inside, lineAt(text, index));
     }
     return turned(made);
   },
 };
 function addArray(made, side, inside, line) {
-  const words = inside.split(/[\s,]+/).filter(it => it);
-  const wrong = words.find(it => !/^0x[0-9a-f]{1,2}u?$/i.test(it));
-  const digits = words.map(it => it.replace(/u$/i, '').slice(2).padStart(2, '0')).join('');
+  const words = inside.split(/[\s,]+/).filter(Boolean);
+  const wrong = words.find(word => !/^0x[0-9a-f]{1,2}u?$/i.test(word));
+  const digits = words.map(word => word.replace(/u$/i, '').slice(2).padStart(2, '0')).join('');
   if (!wrong) addLine(made, side, digits, line);
   else made.left.push({ line, why: '"' + wrong.slice(0, 20) + '" is no byte as 0x42' });
 }
@@ -238,14 +239,14 @@ const FORMS = () => [marks, followed, packets, dumps, records, audit, tails, arr
 
 function readText(text) {
   const lines = text.replace(/^\ufeff/, '').split(/\r?\n/);
-  for (const it of FORMS()) if (it.fits(lines)) return it.read(lines);
-  const named = NAMED().find(it => it[0].test(text.slice(0, 4096)));
+  for (const form of FORMS()) if (form.fits(lines)) return form.read(lines);
+  const named = NAMED().find(([begins]) => begins.test(text.slice(0, 4096)));
   throw new Error(named ? 'This is ' + named[1] + '.'
     : 'This is no hex, no base64, and no log, dump or script of them.' + firstReason(lines));
 }
 // Why the first line that says something is no message.
 function firstReason(lines) {
-  const at = lines.findIndex(it => it.trim()), mark = at >= 0 && markOf(lines[at]);
+  const at = lines.findIndex(line => line.trim()), mark = at >= 0 && markOf(lines[at]);
   const why = at >= 0 && whyNoHex(digitsOf(mark ? mark.digits : lines[at]));
   return why ? ' Line ' + (at + 1) + ': ' + why + '.' : '';
 }

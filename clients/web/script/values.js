@@ -29,64 +29,64 @@ function newListing(bytes, end) {
   return { bytes, end, lines: [], ends: [], open: [], closes: [], names: [], at: 0, part: PART,
     room: PART, isLong: bytes.length > PART, isDone: false, waiting: [], shown: new Set() };
 }
-function listNext(it) {
-  const limit = Math.min(it.closes.at(-1) ?? it.end, it.end);
-  const part = it.bytes.subarray(it.at, Math.min(it.at + it.room, limit));
-  const isAll = it.at + part.length === limit, count = faultOf(part).at;
-  if (!count && !isAll) it.room *= 4;
+function listNext(listing) {
+  const limit = Math.min(listing.closes.at(-1) ?? listing.end, listing.end);
+  const part = listing.bytes.subarray(listing.at, Math.min(listing.at + listing.room, limit));
+  const isAll = listing.at + part.length === limit, count = faultOf(part).at;
+  if (!count && !isAll) listing.room *= 4;
   else {
-    addLines(it, ...linesAfter(it, part));
-    it.at += count;
-    it.room = it.part;
-    closeStructures(it);
+    addLines(listing, ...linesAfter(listing, part));
+    listing.at += count;
+    listing.room = listing.part;
+    closeStructures(listing);
   }
-  it.isDone = it.at === it.end || (isAll && !count) || !it.isLong;
-  const waiting = it.waiting;
-  it.waiting = [];
-  it.waiting.push(...waiting.filter(run => run()));
-  return !it.isDone;
+  listing.isDone = listing.at === listing.end || (isAll && !count) || !listing.isLong;
+  const waiting = listing.waiting;
+  listing.waiting = [];
+  listing.waiting.push(...waiting.filter(run => run()));
+  return !listing.isDone;
 }
 // The lines of a part, and what is added to their places. They stand behind the Attribute Name
 // before the part in the same structure, by which the listing names values.
-function linesAfter(it, part) {
-  const at = it.names[it.open.length];
-  if (at === undefined) return [linesOf(part), it.at];
-  const size = 8 + Math.ceil(new DataView(it.bytes.buffer, it.bytes.byteOffset + at)
+function linesAfter(listing, part) {
+  const at = listing.names[listing.open.length];
+  if (at === undefined) return [linesOf(part), listing.at];
+  const size = 8 + Math.ceil(new DataView(listing.bytes.buffer, listing.bytes.byteOffset + at)
     .getUint32(4) / 8) * 8;
   const both = new Uint8Array(size + part.length);
-  both.set(it.bytes.subarray(at, at + size));
+  both.set(listing.bytes.subarray(at, at + size));
   both.set(part, size);
-  return [linesOf(both).slice(1), it.at - size];
+  return [linesOf(both).slice(1), listing.at - size];
 }
-function addLines(it, lines, base) {
+function addLines(listing, lines, base) {
   for (const line of lines) {
-    const i = it.lines.length, tab = line.indexOf('\t');
+    const i = listing.lines.length, tab = line.indexOf('\t');
     const added = base && tab > 0 ? Number(line.slice(0, tab)) + base + line.slice(tab) : line;
-    it.lines.push(added);
+    listing.lines.push(added);
     if (line === CLOSING) {
-      it.names.length = it.open.length;
-      it.ends[it.open.pop()] = i + 1;
-    } else if (isStructure(line)) it.open.push(i);
-    else it.ends[i] = i + 1;
-    if (isAttributeName(line)) it.names[it.open.length] = partsOf(added).at;
+      listing.names.length = listing.open.length;
+      listing.ends[listing.open.pop()] = i + 1;
+    } else if (isStructure(line)) listing.open.push(i);
+    else listing.ends[i] = i + 1;
+    if (isAttributeName(line)) listing.names[listing.open.length] = partsOf(added).at;
   }
 }
-function closeStructures(it) {
-  while (it.closes.length < it.open.length) {
-    const at = partsOf(it.lines[it.open[it.closes.length]]).at;
-    it.closes.push(at + sizeByHead(it.bytes.subarray(at)));
+function closeStructures(listing) {
+  while (listing.closes.length < listing.open.length) {
+    const at = partsOf(listing.lines[listing.open[listing.closes.length]]).at;
+    listing.closes.push(at + sizeByHead(listing.bytes.subarray(at)));
   }
-  while (it.closes.length && it.at >= it.closes.at(-1) && it.isLong) {
-    addLines(it, [CLOSING], 0);
-    it.closes.pop();
+  while (listing.closes.length && listing.at >= listing.closes.at(-1) && listing.isLong) {
+    addLines(listing, [CLOSING], 0);
+    listing.closes.pop();
   }
 }
 // Where the bytes of an item end: where the next one begins.
-function endOfItem(it, i) {
-  for (let next = it.ends[i] ?? it.lines.length; next < it.lines.length; next++) {
-    if (it.lines[next] !== CLOSING) return partsOf(it.lines[next]).at;
+function endOfItem(listing, i) {
+  for (let next = listing.ends[i] ?? listing.lines.length; next < listing.lines.length; next++) {
+    if (listing.lines[next] !== CLOSING) return partsOf(listing.lines[next]).at;
   }
-  return it.at;
+  return listing.at;
 }
 
 // A text, isolated, so that its characters turn round nothing beside it. A long one is cut.
@@ -96,7 +96,7 @@ function textOf(text) {
   else {
     made.textContent = text.slice(0, SHOWN);
     const label = 'show all ' + grouped(text.length) + ' characters';
-    made.append(button(label, it => drawLong(made, it, text), 'all'));
+    made.append(button(label, pressed => drawLong(made, pressed, text), 'all'));
   }
   return made;
 }
@@ -124,9 +124,9 @@ function valueOf(text, isHidden, changed = () => {}) {
     made.append(textOf(text));
     return made;
   }
-  const toggle = button('hidden: show', it => {
-    const isShown = it.textContent === 'hide';
-    it.textContent = isShown ? 'hidden: show' : 'hide';
+  const toggle = button('hidden: show', () => {
+    const isShown = toggle.textContent === 'hide';
+    toggle.textContent = isShown ? 'hidden: show' : 'hide';
     inside.replaceChildren(...(isShown ? [] : [textOf(text)]));
     changed(!isShown);
   }, 'secret');

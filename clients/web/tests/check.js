@@ -20,7 +20,7 @@ async function onePage(harness, isProved, shots) {
   page.said.length = 0;
   for (const run of [exported, inputs, given, reading, large]) await run(harness, page);
   // Firefox draws its own fields with fonts of data:, and a file is saved from blob:
-  const requests = page.requests.filter(it => !/^(?:data|blob):/.test(it));
+  const requests = page.requests.filter(address => !/^(?:data|blob):/.test(address));
   verdict('no request was made', requests.length === 0, requests);
   verdict('nothing failed in the script', page.said.length === 0, page.said);
   if (shots) await screens(harness, page, shots);

@@ -24,22 +24,22 @@ function listen(stream, heard) {
   });
 }
 const EVENTS = {
-  'Network.requestWillBeSent': (it, { requests }) => requests.push(it.request.url),
-  'Runtime.exceptionThrown': ({ exceptionDetails: it }, { said }) =>
-    said.push(it.exception?.description || it.text),
-  'Log.entryAdded': (it, { said }) => said.push(it.entry.text),
+  'Network.requestWillBeSent': ({ request }, { requests }) => requests.push(request.url),
+  'Runtime.exceptionThrown': ({ exceptionDetails: failed }, { said }) =>
+    said.push(failed.exception?.description || failed.text),
+  'Log.entryAdded': ({ entry }, { said }) => said.push(entry.text),
   'Inspector.targetCrashed': (_, { said }) => said.push('the page crashed'),
 };
 async function connect(child, lists) {
   const wire = commands(text => child.stdio[3].write(text + '\0'));
-  listen(child.stdio[4], it => {
-    if (it.id) wire.answer(it.id, !it.error, it.error ? it.error.message : it.result);
-    else EVENTS[it.method]?.(it.params, lists);
+  listen(child.stdio[4], ({ id, error, result, method, params }) => {
+    if (id) wire.answer(id, !error, error ? error.message : result);
+    else EVENTS[method]?.(params, lists);
   });
   const { targetId } = await wire.send('Target.createTarget', { url: 'about:blank' });
   const { sessionId } = await wire.send('Target.attachToTarget', { targetId, flatten: true });
   const to = (method, params) => wire.send(method, params, { sessionId });
-  for (const it of ['Page', 'Runtime', 'Log', 'Network', 'DOM']) await to(it + '.enable');
+  for (const domain of ['Page', 'Runtime', 'Log', 'Network', 'DOM']) await to(domain + '.enable');
   return { to, quit: () => wire.send('Browser.close') };
 }
 async function call(to, run, words) {
@@ -73,7 +73,7 @@ function onPage(page, to, command) {
     }
   };
   return {
-    drop: (id, files) => dragged(id, { items: [], files: files.map(it => path.resolve(it)) }),
+    drop: (id, files) => dragged(id, { items: [], files: files.map(file => path.resolve(file)) }),
     dropText: (id, text) => dragged(id, { items: [{ mimeType: 'text/plain', data: text }] }),
     // The text is selected and copied from another field, and pasted by the keyboard's command.
     paste: async (id, text) => {
@@ -86,7 +86,7 @@ function onPage(page, to, command) {
     choose: async (id, ...files) => {
       const { root } = await to('DOM.getDocument');
       const { nodeId } = await to('DOM.querySelector', { nodeId: root.nodeId, selector: '#' + id });
-      await to('DOM.setFileInputFiles', { nodeId, files: files.map(it => path.resolve(it)) });
+      await to('DOM.setFileInputFiles', { nodeId, files: files.map(file => path.resolve(file)) });
     },
   };
 }

@@ -4,11 +4,11 @@ const fs = require('fs'), os = require('os'), path = require('path');
 
 // Runs in the page: the arguments come as JSON, bytes among them as { base64 }.
 function invoke(run, words) {
-  const isBytes = it => it && typeof it === 'object' && 'base64' in it;
-  const bytesOf = it => Uint8Array.from(atob(it.base64), char => char.charCodeAt(0));
-  return run(...words.map(it => (isBytes(it) ? bytesOf(it) : it)));
+  const isBytes = word => word && typeof word === 'object' && 'base64' in word;
+  const bytesOf = ({ base64 }) => Uint8Array.from(atob(base64), char => char.charCodeAt(0));
+  return run(...words.map(word => (isBytes(word) ? bytesOf(word) : word)));
 }
-const asJson = it => (Buffer.isBuffer(it) ? { base64: it.toString('base64') } : it);
+const asJson = word => (Buffer.isBuffer(word) ? { base64: word.toString('base64') } : word);
 // The text of a function, also of one that is a member: `name() { .. }`.
 function textOf(run) {
   const text = String(run), member = new RegExp('^(?:async )?' + run.name + '\\(');
@@ -18,9 +18,11 @@ const source = (run, words) =>
   `(${invoke})(${textOf(run)}, ${JSON.stringify(words.map(asJson))})`;
 
 const sleep = milliseconds => new Promise(ok => setTimeout(ok, milliseconds));
+// Seconds count so many times, so that a busy machine fails nothing, as in tools/live/harness.sh.
+const SLACK = 10;
 // Whether what a function of the page returns becomes true in so many seconds.
 async function until(page, seconds, run, ...words) {
-  for (const end = Date.now() + 1000 * seconds; Date.now() < end; await sleep(50)) {
+  for (const end = Date.now() + 1000 * SLACK * seconds; Date.now() < end; await sleep(50)) {
     if (await page.call(run, ...words)) return true;
   }
   return false;
@@ -61,20 +63,20 @@ const inPage = {
   focus(id) { document.getElementById(id).focus(); },
   // A text of another field that is selected, to be copied.
   selectText(text) {
-    const it = document.createElement('textarea');
-    it.id = 'from';
-    it.value = text;
-    document.body.append(it);
-    it.focus();
-    it.select();
+    const area = document.createElement('textarea');
+    area.id = 'from';
+    area.value = text;
+    document.body.append(area);
+    area.focus();
+    area.select();
   },
   removeFrom() { document.getElementById('from').remove(); },
   addChooser() {
-    const it = document.createElement('input');
-    it.type = 'file';
-    it.multiple = true;
-    it.id = 'from';
-    document.body.append(it);
+    const chooser = document.createElement('input');
+    chooser.type = 'file';
+    chooser.multiple = true;
+    chooser.id = 'from';
+    document.body.append(chooser);
   },
   // The event of a drop, with the files of the chooser or with a text.
   dropEvent(id, text) {
@@ -86,9 +88,9 @@ const inPage = {
     document.getElementById(id).dispatchEvent(event);
   },
   centreOf(id) {
-    const it = document.getElementById(id);
-    it.scrollIntoView({ block: 'center' });
-    const { x, y, width, height } = it.getBoundingClientRect();
+    const target = document.getElementById(id);
+    target.scrollIntoView({ block: 'center' });
+    const { x, y, width, height } = target.getBoundingClientRect();
     return [x + width / 2, y + Math.min(height / 2, 300)];
   },
 };

@@ -7,7 +7,7 @@ const { until } = require('./driver.js'), { seen } = require('./harness.js');
 const [request, response] = messages.exchange(1, 16);
 const { sent, received } = messages.capture(40, 32);
 const faulty = Object.fromEntries(Object.entries(messages.faults)
-  .map(([name, it]) => [name, it[0]]));
+  .map(([name, [bytes]]) => [name, bytes]));
 const lists = { 'all types': messages.allTypes, 'a request': request, 'a response': response,
   'attributes': messages.attributes, 'a failure': messages.exchange(3, 16)[1], 'a stream': sent,
   'nothing': Buffer.alloc(0), 'one byte': Buffer.from([0x42]), ...faulty };
@@ -21,8 +21,9 @@ async function asNative({ verdict, native, file }, page) {
   const wrong = [];
   for (const [name, bytes] of Object.entries(lists)) {
     const at = file('bytes', bytes);
-    for (const it of ['web_skeleton', 'web_listing', 'web_decode', 'web_fault']) {
-      if (native(it, at) !== await page.call(textOrCode, it, bytes)) wrong.push(it + ' of ' + name);
+    for (const exported of ['web_skeleton', 'web_listing', 'web_decode', 'web_fault']) {
+      const got = await page.call(textOrCode, exported, bytes);
+      if (native(exported, at) !== got) wrong.push(exported + ' of ' + name);
     }
     const size = await page.call(framed, bytes);
     if (native('web_frame', at).trim() !== size) wrong.push('frame of ' + name);
@@ -54,11 +55,11 @@ async function reports({ verdict, native, file }, page) {
   const rows = await page.call(seen.rows);
   const want = report.slice(0, 120).filter((_, i) => i % 3 === 0);
   verdict('the rows are the entries of the native report', report.length === 123
-    && rows.length === 40 && rows.every((it, i) => it[0] + ' ' + it[3] === want[i]),
+    && rows.length === 40 && rows.every((row, i) => row[0] + ' ' + row[3] === want[i]),
       rows.slice(0, 3));
   await page.call(seen.click, 'tr.exchange');
   const skeletons = await page.call(() => [...document.querySelectorAll('.skeleton')]
-    .map(it => it.textContent));
+    .map(skeleton => skeleton.textContent));
   verdict('and the skeletons of a row are its lines', skeletons[0] === report[1].slice(3)
     && skeletons[1] === report[2].slice(3), [skeletons, report.slice(0, 3)]);
 }
@@ -81,15 +82,15 @@ async function listings({ verdict }, page) {
 }
 // The values by name: under Attribute Value by the Attribute Name before it in the structure.
 async function names({ verdict }, page) {
-  const lines = (await page.call(listing, messages.attributes)).map(it => it.split('\t'));
-  const got = lines.filter(it => /^(?:Enumeration|Integer)$/.test(it[3])).map(it => it[4]);
+  const lines = (await page.call(listing, messages.attributes)).map(line => line.split('\t'));
+  const got = lines.filter(line => /^(?:Enumeration|Integer)$/.test(line[3])).map(line => line[4]);
   verdict('enumerations and masks have their names, also under Attribute Value',
     String(got) === String(messages.attributeValues), got);
 }
 function offsetsOf(bytes) {
-  const offsets = [], walk = it => {
-    offsets.push(it.offset);
-    if (Array.isArray(it.value)) it.value.forEach(walk);
+  const offsets = [], walk = item => {
+    offsets.push(item.offset);
+    if (Array.isArray(item.value)) item.value.forEach(walk);
   };
   walk(JSON.parse(textFrom('web_decode', [bytes])));
   return offsets.join(' ');
@@ -97,14 +98,15 @@ function offsetsOf(bytes) {
 async function offsets({ verdict }, page) {
   const wrong = [];
   for (const name of ['all types', 'a request', 'a response']) {
-    const want = messages.listed(lists[name]).filter(it => it !== ']').map(it => it.split('\t')[0]);
+    const lines = messages.listed(lists[name]).filter(line => line !== ']');
+    const want = lines.map(line => line.split('\t')[0]);
     if (await page.call(offsetsOf, lists[name]) !== want.join(' ')) wrong.push(name);
   }
   verdict('each object of the JSON has the offset that another reader finds', !wrong.length, wrong);
 }
 async function faults({ verdict }, page) {
   for (const [name, [bytes, at, words]] of Object.entries(messages.faults)) {
-    const said = await page.call(it => textFrom('web_fault', [it]), bytes);
+    const said = await page.call(input => textFrom('web_fault', [input]), bytes);
     verdict('fault: ' + name, said.startsWith(at + ' ') && said.includes(words), said);
   }
   await page.call(seen.show, messages.faults['a text that is no UTF-8'][0], null);

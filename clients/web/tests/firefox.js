@@ -8,8 +8,8 @@ const SETTINGS = { 'browser.shell.checkDefaultBrowser': false, 'browser.startup.
   'network.captive-portal-service.enabled': false, 'remote.active-protocols': 1 };
 
 function begin(program, profile) {
-  const lines = Object.entries(SETTINGS).map(it => it.map(x => JSON.stringify(x)).join(', '));
-  fs.writeFileSync(profile + '/user.js', lines.map(it => `user_pref(${it});\n`).join(''));
+  const lines = Object.entries(SETTINGS).map(entry => entry.map(x => JSON.stringify(x)).join(', '));
+  fs.writeFileSync(profile + '/user.js', lines.map(line => `user_pref(${line});\n`).join(''));
   return spawn(program, ['--headless', '--no-remote', '--profile', profile,
     '--remote-debugging-port', '0', 'about:blank'], { stdio: ['ignore', 'ignore', 'pipe'],
     env: { ...process.env, MOZ_HEADLESS_WIDTH: '1280', MOZ_HEADLESS_HEIGHT: '1000',
@@ -36,11 +36,10 @@ async function connect(child, lists) {
   });
   const wire = commands(text => socket.send(text));
   socket.onmessage = event => {
-    const it = JSON.parse(event.data);
-    if (it.id) wire.answer(it.id, it.type !== 'error', it.type === 'error' ? it.message
-      : it.result);
-    else if (it.method === 'network.beforeRequestSent') lists.requests.push(it.params.request.url);
-    else if (it.method === 'log.entryAdded') lists.said.push(it.params.text);
+    const { id, type, message, result, method, params } = JSON.parse(event.data);
+    if (id) wire.answer(id, type !== 'error', type === 'error' ? message : result);
+    else if (method === 'network.beforeRequestSent') lists.requests.push(params.request.url);
+    else if (method === 'log.entryAdded') lists.said.push(params.text);
   };
   await wire.send('session.new', { capabilities: {} });
   await wire.send('session.subscribe', { events: ['network.beforeRequestSent', 'log.entryAdded'] });
@@ -84,7 +83,7 @@ function onPage(page, wire) {
     const made = await wire.send('script.evaluate', { target: { context: wire.context },
       expression: `document.getElementById('${id}')`, awaitPromise: false });
     await wire.send('input.setFiles', { context: wire.context,
-      element: { sharedId: made.result.sharedId }, files: files.map(it => path.resolve(it)) });
+      element: { sharedId: made.result.sharedId }, files: files.map(file => path.resolve(file)) });
   };
   const pasteInto = async id => {
     await page.call(inPage.focus, id);

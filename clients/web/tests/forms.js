@@ -10,7 +10,7 @@ const halves = row => spaced(row.subarray(0, 8)).padEnd(23) + '  '
   + spaced(row.subarray(8)).padEnd(23);
 const offset = (at, size, base = 16) => at.toString(base).padStart(size, '0');
 
-const lines = (bytes, write) => rowsOf(bytes, 16).map(it => write(it) + '\n').join('');
+const lines = (bytes, write) => rowsOf(bytes, 16).map(part => write(part) + '\n').join('');
 // Wireshark's hex dump of a followed stream.
 const dumpOf = (bytes, indent) => lines(bytes,
   ({ at, row }) => `${indent}${offset(at, 8)}  ${halves(row)}   ${chars(row)}`);
@@ -68,7 +68,7 @@ function ip(kind, from, body) {
   head[0] = kind === 4 ? 0x45 : 0x60;
   head.writeUInt16BE(kind === 4 ? 20 + body.length : body.length, kind === 4 ? 2 : 4);
   head[kind === 4 ? 9 : 6] = 6;
-  ends.forEach((it, i) => it.copy(head, (kind === 4 ? 12 : 8) + i * it.length));
+  ends.forEach((address, i) => address.copy(head, (kind === 4 ? 12 : 8) + i * address.length));
   return Buffer.concat([head, body]);
 }
 function ethernet(kind, body, isTagged) {
@@ -76,26 +76,27 @@ function ethernet(kind, body, isTagged) {
   return Buffer.concat([Buffer.from('0'.repeat(24) + (isTagged ? '81000007' : '') + type, 'hex'),
     body]);
 }
-const frameOf = (it, kind = 4, isTagged = false) => ethernet(kind, ip(kind, it.from, tcp(it)),
-  isTagged);
+const packetOf = (segment, kind = 4) => ip(kind, segment.from, tcp(segment));
+const frameOf = (segment, kind = 4, isTagged = false) =>
+  ethernet(kind, packetOf(segment, kind), isTagged);
 function pcap(frames, { link = 1, isLittle = true, kept = Infinity } = {}) {
-  const words = (...list) => Buffer.concat(list.map(it => {
+  const words = (...list) => Buffer.concat(list.map(number => {
     const made = Buffer.alloc(4);
-    if (isLittle) made.writeUInt32LE(it);
-    else made.writeUInt32BE(it);
+    if (isLittle) made.writeUInt32LE(number);
+    else made.writeUInt32BE(number);
     return made;
   }));
   const head = Buffer.concat([words(0xa1b2c3d4, isLittle ? 0x00040002 : 0x00020004),
     words(0, 0, 65535, link)]);
-  return Buffer.concat([head, ...frames.flatMap((it, i) => {
-    const part = it.subarray(0, kept);
-    return [words(1764374400 + i, 0, part.length, it.length), part];
+  return Buffer.concat([head, ...frames.flatMap((frame, i) => {
+    const part = frame.subarray(0, kept);
+    return [words(1764374400 + i, 0, part.length, frame.length), part];
   })]);
 }
 function pcapng(frames) {
-  const words = (...list) => Buffer.concat(list.map(it => {
+  const words = (...list) => Buffer.concat(list.map(number => {
     const made = Buffer.alloc(4);
-    made.writeUInt32LE(it);
+    made.writeUInt32LE(number);
     return made;
   }));
   const block = (type, body) => {
@@ -106,16 +107,16 @@ function pcapng(frames) {
   return Buffer.concat([
     block(0x0a0d0d0a, Buffer.concat([words(0x1a2b3c4d, 1), Buffer.alloc(8, 255)])),
     block(1, words(1, 65535)),
-    ...frames.map((it, i) => block(6, Buffer.concat([words(0, 0, i, it.length, it.length), it])))]);
+    ...frames.map((frame, i) =>
+      block(6, Buffer.concat([words(0, 0, i, frame.length, frame.length), frame])))]);
 }
 // `tshark -x`: each packet, and a block of what was put together of several.
 const BLOCK = 'Reassembled TCP (16 bytes):\n'
   + '0000  42 00 78 01 00 00 00 08  42 00 77 01 00 00 00 00   B.x.....\n';
-const tsharkX = frames => frames.map(it => 'Frame (' + it.length + ' bytes):\n'
-  + lines(it, ({ at, row }) => `${offset(at, 4)}  ${spaced(row).padEnd(47)}   ${chars(row)}`)
+const tsharkX = frames => frames.map(frame => 'Frame (' + frame.length + ' bytes):\n'
+  + lines(frame, ({ at, row }) => `${offset(at, 4)}  ${spaced(row).padEnd(47)}   ${chars(row)}`)
   + BLOCK)
   .join('\n');
 
-module.exports = { hexOf, dumpOf, xxd, hexdump, od, odWords, array, followedRaw, frameOf, pcap,
-  pcapng,
-  tsharkX, ip, tcp };
+module.exports = { hexOf, dumpOf, xxd, hexdump, od, odWords, array, followedRaw, packetOf, frameOf,
+  pcap, pcapng, tsharkX };

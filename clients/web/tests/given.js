@@ -11,10 +11,10 @@ const hasRows = count => document.querySelectorAll('tr.exchange').length === cou
 const says = words => document.getElementById('summary').innerText.includes(words);
 const values = () => SIDES.map(side => document.getElementById(side).value);
 const sizes = () => SIDES.map(side => ofSide(SIDES.flatMap(chunksAt), side)
-  .reduce((sum, it) => sum + it.bytes.length, 0)).join();
+  .reduce((sum, { bytes }) => sum + bytes.length, 0)).join();
 const hasSizes = want => SIDES.map(side => ofSide(SIDES.flatMap(chunksAt), side)
-  .reduce((sum, it) => sum + it.bytes.length, 0)).join() === want;
-const want = (a, b) => [a, b].map(it => (it ? it.length : 0)).join();
+  .reduce((sum, { bytes }) => sum + bytes.length, 0)).join() === want;
+const want = (a, b) => [a, b].map(bytes => (bytes ? bytes.length : 0)).join();
 
 async function byHand({ verdict, file }, page) {
   await page.call(seen.clear);
@@ -29,11 +29,11 @@ async function byHand({ verdict, file }, page) {
   for (const order of [['sent.bin', 'received.bin'], ['received.bin', 'sent.bin']]) {
     await page.call(seen.clear);
     const bytes = { 'sent.bin': sent, 'received.bin': received };
-    await page.drop('out', order.map(it => file(it, bytes[it])));
+    await page.drop('out', order.map(name => file(name, bytes[name])));
     const isThere = await until(page, 10, hasSizes, want(sent, received));
     verdict('two files at once are both sides: ' + order, isThere, await page.call(sizes));
   }
-  await page.drop('out', ['a', 'b', 'c'].map(it => file(it, sent)));
+  await page.drop('out', ['a', 'b', 'c'].map(name => file(name, sent)));
   verdict('three files are refused, and it is said',
     await until(page, 10, says, '3 files were dropped'), await page.call(seen.summary));
 }
@@ -91,13 +91,13 @@ function holdFiles() {
 }
 async function slowLoads({ verdict }, page) {
   await page.call(holdFiles);
-  const load = (side, name, bytes) => page.call((at, as, it) => {
-    takeFile(at, window.heldFile(as, it));
+  const load = (side, name, bytes) => page.call((at, as, contents) => {
+    takeFile(at, window.heldFile(as, contents));
   }, side, name, bytes);
   const finish = order => page.call(async list => {
     await pause();
-    for (const it of list) {
-      window.held[it]();
+    for (const index of list) {
+      window.held[index]();
       await pause();
       await pause();
     }
@@ -126,17 +126,17 @@ async function unreadable({ verdict, file }, page) {
   const name = file('gone.bin', sent);
   await page.call(seen.clear);
   await page.call(() => {
-    const it = document.createElement('input');
-    it.type = 'file';
-    it.id = 'kept';
-    document.body.append(it);
+    const chooser = document.createElement('input');
+    chooser.type = 'file';
+    chooser.id = 'kept';
+    document.body.append(chooser);
   });
   await page.choose('kept', name);
   fs.rmSync(name);
   await page.call(() => {
-    const it = document.getElementById('kept');
-    takeFile('sent', it.files[0]);
-    it.remove();
+    const chooser = document.getElementById('kept');
+    takeFile('sent', chooser.files[0]);
+    chooser.remove();
   });
   verdict('a file that cannot be read is said',
     await until(page, 10, says, 'could not read gone.bin'), await page.call(seen.summary));

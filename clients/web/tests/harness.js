@@ -40,14 +40,14 @@ const seen = {
   async rows() {
     while (begun.has(table)) await pause();
     const rows = [...document.querySelectorAll('tr.exchange')];
-    return rows.map(row => [...row.cells].map(it => it.textContent));
+    return rows.map(row => [...row.cells].map(cell => cell.textContent));
   },
   countOf: selector => document.querySelectorAll(selector).length,
   click(selector) { document.querySelector(selector).click(); },
   focus(selector) { document.querySelector(selector).focus(); },
   text: selector => document.querySelector(selector)?.textContent,
-  chunks: () => SIDES.flatMap(chunksAt).map(it => it.side + ' '
-    + Array.from(it.bytes, x => x.toString(16).padStart(2, '0')).join('')),
+  chunks: () => SIDES.flatMap(chunksAt).map(({ side, bytes }) => side + ' '
+    + Array.from(bytes, x => x.toString(16).padStart(2, '0')).join('')),
   show(sent, received) {
     document.getElementById('clear').click();
     [sent, received].forEach((bytes, i) => {

@@ -5,13 +5,13 @@ const messages = require('./messages.js'), forms = require('./forms.js');
 const { until } = require('./driver.js'), { seen } = require('./harness.js');
 const { hexOf } = forms;
 
-const [[request, response], [second, answer]] = [1, 2].map(it => messages.exchange(it, 32));
+const [[request, response], [second, answer]] = [1, 2].map(number => messages.exchange(number, 32));
 const sent = Buffer.concat([request, second]), received = Buffer.concat([response, answer]);
 const bothSides = ['sent ' + hexOf(sent), 'received ' + hexOf(received)];
 // The bytes of each side, put together.
 const sidesOf = chunks => ['sent', 'received'].map(side => side + ' '
-  + chunks.filter(it => it.startsWith(side)).map(it => it.split(' ')[1]).join(''))
-  .filter(it => !it.endsWith(' '));
+  + chunks.filter(chunk => chunk.startsWith(side)).map(chunk => chunk.split(' ')[1]).join(''))
+  .filter(text => !text.endsWith(' '));
 
 // Texts that give both sides, whichever field they stand in.
 const log = `connected\n> ${hexOf(request)}\n>~ 78[..]\n< ${hexOf(response)}\n> ${hexOf(second)}\n`
@@ -19,9 +19,9 @@ const log = `connected\n> ${hexOf(request)}\n>~ 78[..]\n< ${hexOf(response)}\n> 
 const timed = log.replace(/^([<>] )/gm, '2025-11-29 09:00:00,123 DEBUG kmip: $1');
 const arrow = `12:00:01.5 -> ${hexOf(request)}\n12:00:01.6 <- ${hexOf(response)}\n`
   + `12:00:02.5 -> ${hexOf(second)}\n12:00:02.6 <- ${hexOf(answer)}\n`;
-const chunked = [request, response, second, answer].map((it, i) => {
+const chunked = [request, response, second, answer].map((message, i) => {
   const mark = i % 2 ? '< ' : '> ';
-  return mark + hexOf(it.subarray(0, 8)) + '\n' + mark + hexOf(it.subarray(8)) + '\n';
+  return mark + hexOf(message.subarray(0, 8)) + '\n' + mark + hexOf(message.subarray(8)) + '\n';
 }).join('');
 const parts = [[0, request], [1, response], [0, second], [1, answer]];
 const followed = forms.dumpOf(request, '') + forms.dumpOf(response, '    ');
@@ -32,12 +32,14 @@ const both = {
     + `raw ${hexOf(second)} ${hexOf(answer)}\n`,
   'a script of kmip_run audit': `${hexOf(sent)}\n${hexOf(received)}\n`,
   'lines that end with messages': [request, response, second, answer]
-    .map((it, i) => `09:00:0${i} wire="${hexOf(it)}"\n`).join(''),
-  'messages, one a line': [request, response, second, answer].map(it => hexOf(it) + '\n').join(''),
+    .map((message, i) => `09:00:0${i} wire="${hexOf(message)}"\n`).join(''),
+  'messages, one a line': [request, response, second, answer]
+    .map(message => hexOf(message) + '\n').join(''),
   "tshark's follow,tcp,raw": forms.followedRaw(parts),
-  'the same without its header': parts.map(([at, it]) => (at ? '\t' : '') + hexOf(it)).join('\n'),
-  'the same, where the server stands first': forms.followedRaw(parts.map(([at, it]) => [1 - at,
-    it])),
+  'the same without its header': parts
+    .map(([at, message]) => (at ? '\t' : '') + hexOf(message)).join('\n'),
+  'the same, where the server stands first':
+    forms.followedRaw(parts.map(([at, message]) => [1 - at, message])),
   "Wireshark's hex dump": forms.dumpOf(sent, '') + forms.dumpOf(received, '    '),
   "tshark's hex dump": forms.dumpOf(sent, '') + forms.dumpOf(received, '\t'),
   "Wireshark's C arrays": forms.array('peer0_0', sent) + forms.array('peer1_0', received),
@@ -83,7 +85,7 @@ async function texts({ verdict }, page) {
       await page.call(seen.clear);
       await page.call(seen.give, side, text);
       const got = sidesOf(await page.call(seen.chunks)), rows = await page.call(seen.rows);
-      const words = rows.map(it => it[3]).join();
+      const words = rows.map(row => row[3]).join();
       verdict(`${name}, in the field ${side}`, String(got) === String(bothSides)
         && words === 'answered Get,answered Destroy', [got, words, await page.call(seen.summary)]);
     }
@@ -122,14 +124,14 @@ async function damages({ verdict }, page) {
   const outcomes = async text => {
     await page.call(seen.clear);
     await page.call(seen.give, 'sent', text);
-    return (await page.call(seen.rows)).map(it => it[3]);
+    return (await page.call(seen.rows)).map(row => row[3]);
   };
-  const whole = await outcomes(lines.join('\n')), changed = (at, it) =>
-    lines.map((line, i) => (i === at ? it : line)).join('\n');
+  const whole = await outcomes(lines.join('\n')), changed = (at, other) =>
+    lines.map((line, i) => (i === at ? other : line)).join('\n');
   verdict('a whole log has its 20 exchanges', whole.length === 20
-    && whole.every(it => /^(answered|failed)/.test(it)), whole);
-  const isKept = (got, at, words) => got.length === 20 && got.every((it, i) =>
-    (i === at ? it.includes(words) : it === whole[i]));
+    && whole.every(outcome => /^(answered|failed)/.test(outcome)), whole);
+  const isKept = (got, at, words) => got.length === 20 && got.every((outcome, i) =>
+    (i === at ? outcome.includes(words) : outcome === whole[i]));
   const torn = await outcomes(changed(6, lines[6].slice(0, -3)));
   verdict('a line with an odd digit takes no other line with it', isKept(torn, 3, 'left out'),
     torn);
@@ -194,7 +196,10 @@ function conversation(size) {
   }
   return made;
 }
-const framed = (list, kind, isTagged) => list.map(it => forms.frameOf(it, kind, isTagged));
+const framed = (list, kind, isTagged) =>
+  list.map(segment => forms.frameOf(segment, kind, isTagged));
+const headed = (list, head) =>
+  list.map(segment => Buffer.concat([Buffer.from(head, 'hex'), forms.packetOf(segment)]));
 const moved = (list, from, to) => {
   const made = [...list];
   made.splice(to, 0, ...made.splice(from, 1));
@@ -207,12 +212,9 @@ const captures = {
   'a pcapng file': forms.pcapng(framed(talk)),
   'a capture of IPv6': forms.pcap(framed(talk, 6)),
   'a capture with VLAN tags': forms.pcap(framed(talk, 4, true)),
-  'a capture of raw IP': forms.pcap(talk.map(it => forms.ip(4, it.from, forms.tcp(it))),
-    { link: 101 }),
-  'a capture of the loopback': forms.pcap(talk.map(it => Buffer.concat([Buffer.from([2, 0, 0, 0]),
-    forms.ip(4, it.from, forms.tcp(it))])), { link: 0 }),
-  'a capture of Linux "any"': forms.pcap(talk.map(it => Buffer.concat([Buffer.alloc(14),
-    Buffer.from([8, 0]), forms.ip(4, it.from, forms.tcp(it))])), { link: 113 }),
+  'a capture of raw IP': forms.pcap(headed(talk, ''), { link: 101 }),
+  'a capture of the loopback': forms.pcap(headed(talk, '02000000'), { link: 0 }),
+  'a capture of Linux "any"': forms.pcap(headed(talk, '00'.repeat(14) + '0800'), { link: 113 }),
   'segments out of order': forms.pcap(framed(moved(talk, 2, 3))),
   'segments sent twice': forms.pcap(framed([...talk.slice(0, 4), talk[2], ...talk.slice(4)])),
   'a capture without its beginning': forms.pcap(framed(talk.slice(2))),
@@ -233,20 +235,20 @@ async function captured({ verdict, file }, page) {
   const left = await page.call(seen.left), rows = await page.call(seen.rows);
   verdict('a packet that is missing in a capture is said, and costs one row',
     left.includes('50 bytes before this packet are missing')
-    && rows.some(it => it[3] === 'answered Destroy'), [left, rows]);
+    && rows.some(row => row[3] === 'answered Destroy'), [left, rows]);
 }
 
 // Captures that are cut off anywhere, or have a changed byte, are read or said to be wrong.
 async function odd({ verdict }, page) {
   for (const name of ['a pcap file', 'a pcapng file', 'a capture of IPv6']) {
     const wrong = await page.call(bytes => {
-      const outcome = it => readOrSay(() => readGiven(it)).failed || '';
+      const outcome = input => readOrSay(() => readGiven(input)).failed || '';
       const isWrong = text => /memory|undefined|Offset|bounds|not a/.test(text), found = [];
       for (let at = 0; at < bytes.length; at += 7) {
         const changed = bytes.slice();
         changed[at] ^= 0xff;
-        for (const it of [bytes.subarray(0, at), changed]) {
-          if (isWrong(outcome(it))) found.push([at, outcome(it)]);
+        for (const input of [bytes.subarray(0, at), changed]) {
+          if (isWrong(outcome(input))) found.push([at, outcome(input)]);
         }
       }
       return found;

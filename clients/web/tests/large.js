@@ -35,11 +35,12 @@ async function endWatch(page) {
 function watch() {
   window.beats = { longest: 0, first: null, start: performance.now(), last: performance.now() };
   const beat = () => {
-    const now = performance.now(), it = window.beats;
-    it.longest = Math.max(it.longest, now - it.last);
-    it.last = now;
-    if (it.first === null && document.querySelector('tr.exchange')) it.first = now - it.start;
-    if (!it.isOver) setTimeout(beat, 0);
+    const now = performance.now(), beats = window.beats;
+    beats.longest = Math.max(beats.longest, now - beats.last);
+    beats.last = now;
+    const isFirst = beats.first === null && document.querySelector('tr.exchange');
+    if (isFirst) beats.first = now - beats.start;
+    if (!beats.isOver) setTimeout(beat, 0);
   };
   beat();
 }
@@ -61,7 +62,7 @@ async function exchanges({ verdict, native, file }, page) {
   verdict(`${(size / 1e6).toFixed(1)} MB, 40,000 exchanges, are dropped and read`,
     size > 16e6 && await until(page, 60, says, '40,000 exchanges'), await page.call(seen.summary));
   const again = await page.call(async () => {
-    const kept = [...SIDES.map(it => fields[it])];
+    const kept = [...SIDES.map(side => fields[side])];
     document.getElementById('clear').click();
     window.kept = { sent: kept[0].chunks[0].bytes, received: kept[1].chunks[0].bytes };
   });
@@ -76,9 +77,9 @@ async function exchanges({ verdict, native, file }, page) {
     file('received.bin', received)).split('\n');
   const at = 31234, want = report[3 * at];
   await page.call(words => {
-    const it = document.querySelector('input[type=search]');
-    it.value = words;
-    it.oninput();
+    const field = document.querySelector('input[type=search]');
+    field.value = words;
+    field.oninput();
   }, '#' + (at + 1));
   const rows = await page.call(seen.rows);
   verdict('a row far down is that of the native report',
@@ -88,9 +89,9 @@ async function exchanges({ verdict, native, file }, page) {
 async function searchAll({ verdict }, page) {
   await startWatch(page);
   await page.call(() => {
-    const it = document.querySelector('input[type=search]');
-    it.value = 'key-39999';
-    it.oninput();
+    const field = document.querySelector('input[type=search]');
+    field.value = 'key-39999';
+    field.oninput();
   });
   const line = await page.call(() => document.querySelector('.found').textContent);
   const rows = await page.call(seen.rows), took = await endWatch(page);
@@ -128,11 +129,11 @@ async function oneMessage({ verdict, file }, page) {
 // The parts together are the listing of the whole message.
 async function sameListing({ verdict }, page) {
   const isSame = await page.call(() => {
-    const { it } = document.querySelector('.tree'), whole = linesOf(it.bytes);
-    const same = whole.length === it.lines.length && whole.every((line, i) => line === it.lines[i]);
-    const ends = newListing(it.bytes, it.bytes.length);
-    addLines(ends, whole, 0);
-    return [same, ends.ends.every((end, i) => end === it.ends[i]), whole.length, it.lines.length];
+    const { bytes, lines, ends } = document.querySelector('.tree').listing;
+    const whole = linesOf(bytes), atOnce = newListing(bytes, bytes.length);
+    addLines(atOnce, whole, 0);
+    const isSame = whole.length === lines.length && whole.every((line, i) => line === lines[i]);
+    return [isSame, atOnce.ends.every((end, i) => end === ends[i]), whole.length, lines.length];
   });
   verdict('the parts are the listing of the whole message', isSame[0] && isSame[1], isSame);
 }
@@ -153,13 +154,13 @@ async function parts({ verdict }, page) {
   const deep = [1, 2, 3].reduce(
     inner => structure(0x420091, inner, text(0x420094, 'x'), structure(0x420091), inner),
     structure(0x420091, text(0x420094, 'y')));
+  const faulty = Object.entries(messages.faults).map(([name, [bytes]]) => [name, bytes]);
   const lists = { deep, cut: deep.subarray(0, -40), 'all types': messages.allTypes,
-    attributes: messages.attributes,
-    ...Object.fromEntries(Object.entries(messages.faults).map(([name, it]) => [name, it[0]])) };
+    attributes: messages.attributes, ...Object.fromEntries(faulty) };
   const listed = (bytes, room) => {
-    const it = { ...newListing(bytes, faultOf(bytes).at), isLong: true, room, part: room };
-    for (let count = 0; count < 10000 && listNext(it); count++);
-    return [it.lines, linesOf(bytes)];
+    const listing = { ...newListing(bytes, faultOf(bytes).at), isLong: true, room, part: room };
+    for (let count = 0; count < 10000 && listNext(listing); count++);
+    return [listing.lines, linesOf(bytes)];
   };
   const wrong = [];
   for (const [name, bytes] of Object.entries(lists)) {

@@ -8,9 +8,9 @@ const { until } = require('./driver.js'), { seen } = require('./harness.js');
 function numberAt(module, at) {
   let value = 0, next = at;
   for (let factor = 1; ; factor *= 128) {
-    const it = module[next++];
-    value += (it & 127) * factor;
-    if (it < 128) return [value, next];
+    const byte = module[next++];
+    value += (byte & 127) * factor;
+    if (byte < 128) return [value, next];
   }
 }
 function bytesOf(number) {
@@ -40,7 +40,7 @@ const isCapped = flags => flags | 1, isUnknown = () => 0x40;
 async function openLimited({ folder, room, file }, page, name, flagsOf) {
   const module = limited(fs.readFileSync(path.join(folder, name + '.wasm')), flagsOf);
   const made = path.join(room, name + '-limited.html');
-  const script = path.join(__dirname, '../../clients/web/page.py');
+  const script = path.join(__dirname, '../page.py');
   execFileSync('python3', [script, file(name + '-limited.wasm', module), made, 'Computed here.']);
   await page.open(made);
   await until(page, 20, seen.isReady);

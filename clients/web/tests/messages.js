@@ -65,7 +65,7 @@ const attributes = structure(0x420078, ...under.map(([name, value]) => attribute
   attribute('State', integer(0x420009, 1), enumeration(0x42000B, 4)),
   structure(0x420008, enumeration(0x42000B, 3)), enumeration(0x42000B, 1),
   enumeration(0x420024, 1), integer(0x42002C, -2147483647), integer(0x42008E, 3));
-const attributeValues = [...under.map(it => it[2]), '1', '0x4 Compromised', '0x3', '0x1',
+const attributeValues = [...under.map(row => row[2]), '1', '0x4 Compromised', '0x3', '0x1',
   '0x1 UsernameAndPassword', '-2147483647 Sign 0x80000000', '3 OnLineStorage ArchivalStorage'];
 
 function exchange(number, size) {
@@ -77,8 +77,8 @@ function exchange(number, size) {
 }
 function capture(count, size) {
   const all = Array.from({ length: count }, (_, i) => exchange(i + 1, size));
-  return { sent: Buffer.concat(all.map(it => it[0])),
-    received: Buffer.concat(all.map(it => it[1])) };
+  return { sent: Buffer.concat(all.map(pair => pair[0])),
+    received: Buffer.concat(all.map(pair => pair[1])) };
 }
 const nested = depth => depth ? structure(0x420091, nested(depth - 1)) : Buffer.alloc(0);
 function changed(from, at, value) {
@@ -112,7 +112,7 @@ function shown(code, value) {
   const upper = number => number.toString(16).toUpperCase();
   const signed = () => String(value.length === 4 ? value.readInt32BE() : value.readBigInt64BE());
   const escaped = () => value.toString('utf8').replace(/[\x00-\x1f\\\x7f]/g,
-    it => '\\' + upper(it.charCodeAt(0)).padStart(2, '0'));
+    char => '\\' + upper(char.charCodeAt(0)).padStart(2, '0'));
   const hex = () => value.toString('hex').toUpperCase(), none = () => '';
   const number = () => '0x' + upper(value.readUInt32BE());
   const truth = () => String(value.readBigInt64BE() === 1n);

@@ -44,18 +44,18 @@ void rattle_dealloc(void *place) {
 
 static given contents(const char *name) {
     FILE *file = fopen(name, "rb");
-    given it = {malloc(1), 0};
+    given made = {malloc(1), 0};
     size_t room = 1, got;
-    if (!file || !it.bytes) {
+    if (!file || !made.bytes) {
         perror(name);
         exit(2);
     }
-    while ((got = fread(it.bytes + it.size, 1, room - it.size, file)) > 0) {
-        it.size += got;
-        if (it.size < room) continue;
+    while ((got = fread(made.bytes + made.size, 1, room - made.size, file)) > 0) {
+        made.size += got;
+        if (made.size < room) continue;
         room *= 2;
-        it.bytes = realloc(it.bytes, room);
-        if (!it.bytes) {
+        made.bytes = realloc(made.bytes, room);
+        if (!made.bytes) {
             perror(name);
             exit(2);
         }
@@ -64,7 +64,7 @@ static given contents(const char *name) {
         perror(name);
         exit(2);
     }
-    return it;
+    return made;
 }
 
 int main(int count, char **words) {

@@ -26,66 +26,66 @@ async function listen() {
 const attempts = {
   fetch(to) { return fetch(to).catch(() => 0); },
   request(to) {
-    const it = new XMLHttpRequest();
-    it.open('POST', to);
-    it.send('x');
+    const request = new XMLHttpRequest();
+    request.open('POST', to);
+    request.send('x');
   },
   beacon(to) { navigator.sendBeacon(to, 'x'); },
   image(to) { new Image().src = to; },
   font(to) { return new FontFace('other', 'url(' + to + ')').load().catch(() => 0); },
   stylesheet(to) {
-    const it = document.createElement('link');
-    it.rel = 'stylesheet';
-    it.href = to;
-    document.head.append(it);
+    const link = document.createElement('link');
+    link.rel = 'stylesheet';
+    link.href = to;
+    document.head.append(link);
   },
   script(to) {
-    const it = document.createElement('script');
-    it.src = to;
-    document.body.append(it);
+    const script = document.createElement('script');
+    script.src = to;
+    document.body.append(script);
   },
   frame(to) {
-    const it = document.createElement('iframe');
-    it.src = to;
-    document.body.append(it);
+    const frame = document.createElement('iframe');
+    frame.src = to;
+    document.body.append(frame);
   },
   media(to) {
-    const it = document.createElement('video');
-    it.src = to;
-    document.body.append(it);
-    it.load();
+    const video = document.createElement('video');
+    video.src = to;
+    document.body.append(video);
+    video.load();
   },
   object(to) {
-    const it = document.createElement('object');
-    it.data = to;
-    document.body.append(it);
+    const object = document.createElement('object');
+    object.data = to;
+    document.body.append(object);
   },
   events(to) { new EventSource(to); },
   socket(to) { new WebSocket(to.replace('http', 'ws')); },
   form(to) {
-    const it = document.createElement('form');
-    it.action = to;
-    it.target = 'other';
-    it.method = 'post';
-    document.body.append(it);
+    const form = document.createElement('form');
+    form.action = to;
+    form.target = 'other';
+    form.method = 'post';
+    document.body.append(form);
     const frame = document.createElement('iframe');
     frame.name = 'other';
     document.body.append(frame);
-    it.submit();
+    form.submit();
   },
 };
 // What runs a text as a program in the page.
 const programs = {
   script() {
-    const it = document.createElement('script');
-    it.textContent = 'window.ran = 1';
-    document.body.append(it);
+    const script = document.createElement('script');
+    script.textContent = 'window.ran = 1';
+    document.body.append(script);
     return window.ran === 1;
   },
   handler() {
-    const it = document.createElement('p');
-    it.setAttribute('onclick', 'window.clicked = 1');
-    it.click();
+    const paragraph = document.createElement('p');
+    paragraph.setAttribute('onclick', 'window.clicked = 1');
+    paragraph.click();
     return window.clicked === 1;
   },
   // Later, since a driver's own program may do what the page's may not.
@@ -97,22 +97,22 @@ const programs = {
     }
   }, 0)),
   worker: () => new Promise(ok => {
-    const it = new Worker(URL.createObjectURL(new Blob(['postMessage(1)'])));
-    it.onmessage = () => ok(true);
-    it.onerror = () => ok(false);
+    const worker = new Worker(URL.createObjectURL(new Blob(['postMessage(1)'])));
+    worker.onmessage = () => ok(true);
+    worker.onerror = () => ok(false);
     setTimeout(() => ok(false), 2000);
   }),
 };
 // An address of this machine that WebRTC of both browsers goes to: Firefox's leaves out 127.0.0.1.
 const here = Object.values(os.networkInterfaces()).flat()
-  .find(it => it.family === 'IPv4' && !it.internal)?.address || '127.0.0.1';
+  .find(({ family, internal }) => family === 'IPv4' && !internal)?.address || '127.0.0.1';
 // What a policy of a page does not govern.
 const others = {
   async webrtc(to, host) {
     const urls = 'stun:' + host + ':' + new URL(to).port;
-    const it = new RTCPeerConnection({ iceServers: [{ urls }] });
-    it.createDataChannel('x');
-    await it.setLocalDescription(await it.createOffer());
+    const connection = new RTCPeerConnection({ iceServers: [{ urls }] });
+    connection.createDataChannel('x');
+    await connection.setLocalDescription(await connection.createOffer());
   },
   location(to) { location.href = to; },
 };
@@ -137,12 +137,12 @@ async function policy({ verdict, folder, file, launch }) {
   await page.open(file('plain.html', '<!doctype html><html><body><p>no policy</p></body></html>'));
   const plain = await tryAll(page, listener), ran = await runAll(page);
   verdict('without a policy each attempt reaches a listener', String(plain) === String(all),
-    all.filter(it => !plain.includes(it)));
+    all.filter(name => !plain.includes(name)));
   verdict('and each program runs', ran.length === Object.keys(programs).length, ran);
   await page.open(path.join(folder, 'kmip.html'));
   await until(page, 20, seen.isReady);
   const reached = await tryAll(page, listener), inside = await runAll(page);
-  for (const it of all) verdict('stopped by the policy: ' + it, !reached.includes(it));
+  for (const name of all) verdict('stopped by the policy: ' + name, !reached.includes(name));
   verdict('no other program runs in the page', !inside.length, inside);
   await unstopped(verdict, page, listener);
   listener.close();

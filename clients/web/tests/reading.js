@@ -15,7 +15,7 @@ async function tables({ verdict }, page) {
   verdict('a row leads with operation, identifier, outcome and time', String(rows[2])
     === '#3,Get,key-3,failed ItemNotFound,2025-11-29T00:00:00+00:00', rows[2]);
   const heads = await page.call(() => [...document.querySelectorAll('th[scope=col]')]
-    .map(it => it.textContent));
+    .map(head => head.textContent));
   verdict('columns have headers', String(heads) === '#,Operation,Object,Outcome,Time', heads);
   await page.call(seen.show, null, received);
   const alone = await page.call(seen.rows);
@@ -35,19 +35,19 @@ async function tables({ verdict }, page) {
 }
 
 const search = words => {
-  const it = document.querySelector('input[type=search]');
-  it.value = words;
-  it.oninput();
+  const field = document.querySelector('input[type=search]');
+  field.value = words;
+  field.oninput();
 };
 const found = () => document.querySelector('.found').textContent;
 const searches = {
   '#12': rows => rows.length === 1 && rows[0][0] === '#12',
   'KEY-12': rows => rows.length === 1 && idOf(rows[0]) === 'key-12',
-  'destroy': rows => rows.length > 1 && rows.every(it => it[1] === 'Destroy'),
-  'get notfound': rows => rows.length > 1 && rows.every(it => it[3] === 'failed ItemNotFound'),
-  '42008f': rows => rows.length > 1 && rows.every(it => it[3] === 'answered Get'),
-  'key block aes': rows => rows.length > 1 && rows.every(it => it[3] === 'answered Get'),
-  'no such object': rows => rows.length > 1 && rows.every(it => it[3] === 'failed ItemNotFound'),
+  'destroy': rows => rows.length > 1 && rows.every(row => row[1] === 'Destroy'),
+  'get notfound': rows => rows.length > 1 && rows.every(row => row[3] === 'failed ItemNotFound'),
+  '42008f': rows => rows.length > 1 && rows.every(row => row[3] === 'answered Get'),
+  'key block aes': rows => rows.length > 1 && rows.every(row => row[3] === 'answered Get'),
+  'no such object': rows => rows.length > 1 && rows.every(row => row[3] === 'failed ItemNotFound'),
 };
 async function searched({ verdict }, page) {
   await page.call(seen.show, sent, received);
@@ -75,7 +75,7 @@ async function searched({ verdict }, page) {
 // What is copied, since the clipboard of the system may be another's: the text that is handed on.
 function keepCopies() {
   window.copies = [];
-  navigator.clipboard.writeText = async it => { window.copies.push(it); };
+  navigator.clipboard.writeText = async text => { window.copies.push(text); };
 }
 const lastCopy = () => window.copies.at(-1);
 async function copied(page, selector) {
@@ -109,7 +109,7 @@ async function copies({ verdict, native, file }, page) {
   await page.call(seen.rows);
   await page.call(keepCopies);
   const at = file('all', bytes), json = native('web_decode', at);
-  const withoutOffset = (name, it) => (name === 'offset' ? undefined : it);
+  const withoutOffset = (name, value) => (name === 'offset' ? undefined : value);
   const plain = JSON.stringify(JSON.parse(json, withoutOffset));
   const want = { '.copy': native('web_skeleton', at), '.copy-hex': hexOf(bytes).toUpperCase(),
     '.copy-json': plain, '.copy-xml': XML };
@@ -127,9 +127,9 @@ async function saved({ verdict }, page, bytes) {
   await page.call(() => {
     window.blobs = [];
     const made = URL.createObjectURL;
-    URL.createObjectURL = it => {
-      window.blobs.push(it);
-      return made.call(URL, it);
+    URL.createObjectURL = blob => {
+      window.blobs.push(blob);
+      return made.call(URL, blob);
     };
     HTMLAnchorElement.prototype.click = function () { window.savedAs = this.download; };
     document.querySelector('.save').click();
@@ -148,7 +148,8 @@ async function shown({ verdict }, page) {
   await until(page, 10, () => document.querySelector('.json pre').textContent !== '');
   const lines = (await page.call(seen.text, '.json pre')).split('\n');
   verdict('the JSON is shown, an item a line', lines.length === 15
-    && lines.every(it => it.startsWith('{"offset":')) && lines[7].includes('<b>鍵</b>'), lines);
+    && lines.every(line => line.startsWith('{"offset":'))
+    && lines[7].includes('<b>鍵</b>'), lines);
 }
 
 async function secrets({ verdict }, page) {
@@ -183,7 +184,7 @@ async function secretData({ verdict }, page) {
   await page.call(seen.show, null, messages.answered(10, messages.named('s'), object));
   await page.call(seen.rows);
   await page.call(seen.click, '.show-bytes');
-  const digits = () => [...document.querySelectorAll('.digits')].map(it => it.textContent)
+  const digits = () => [...document.querySelectorAll('.digits')].map(row => row.textContent)
     .join(' ');
   const text = await page.call(seen.text, '.tree'), before = await page.call(digits);
   await page.call(seen.click, '.secret');
@@ -220,9 +221,9 @@ async function bytesBeside({ verdict }, page) {
   await page.call(seen.click, '.show-bytes');
   const marked = name => {
     const row = [...document.querySelectorAll('.row, summary')]
-      .find(it => it.querySelector('.name')?.textContent === name);
+      .find(item => item.querySelector('.name')?.textContent === name);
     row.dispatchEvent(new MouseEvent('click', { bubbles: true, cancelable: true }));
-    return [...document.querySelectorAll('.digits mark')].map(it => it.textContent).join(' ');
+    return [...document.querySelectorAll('.digits mark')].map(mark => mark.textContent).join(' ');
   };
   const item = await page.call(marked, 'Unique Identifier');
   verdict('the bytes of an item are marked',
@@ -248,19 +249,19 @@ async function directions({ verdict }, page) {
   await page.call(seen.show, bytes, null);
   await page.call(seen.rows);
   const places = await page.call(() => [...document.querySelectorAll('bdi')]
-    .filter(it => it.textContent.includes('\u202E'))
-    .map(it => [getComputedStyle(it).unicodeBidi, it.textContent]));
+    .filter(bdi => bdi.textContent.includes('\u202E'))
+    .map(bdi => [getComputedStyle(bdi).unicodeBidi, bdi.textContent]));
   verdict('a text is isolated in the row and in the tree', places.length === 2
     && places.every(([bidi, text]) => bidi === 'isolate' && text === 'a\u202Ecba'), places);
   const order = await page.call(() => {
-    const row = [...document.querySelectorAll('.tree .row')].find(it =>
-      it.textContent.includes('\u202E'));
+    const row = [...document.querySelectorAll('.tree .row')].find(item =>
+      item.textContent.includes('\u202E'));
     const x = node => {
       const range = document.createRange();
       range.selectNode(node);
       return range.getBoundingClientRect().x;
     };
-    const quotes = [...row.childNodes].filter(it => it.textContent === '"');
+    const quotes = [...row.childNodes].filter(node => node.textContent === '"');
     return [x(quotes[0]), x(row.querySelector('.value')), x(quotes[1])];
   });
   verdict('its quotes stand before and after it', order[0] < order[1] && order[1] < order[2],
@@ -301,7 +302,7 @@ async function narrow({ verdict }, page) {
     const got = await page.call(() => {
       const cells = [...document.querySelectorAll('tr.exchange')[2].cells];
       return { height: document.querySelectorAll('tr.exchange')[2].offsetHeight,
-        least: Math.min(...cells.slice(1).map(it => it.offsetWidth)),
+        least: Math.min(...cells.slice(1).map(cell => cell.offsetWidth)),
         over: document.documentElement.scrollWidth - innerWidth };
     });
     verdict(`at ${width} px a row has a few lines`, got.height <= 80 && got.over <= 0
@@ -326,9 +327,9 @@ async function assistive({ verdict }, page) {
   await page.call(seen.click, '#example');
   const rows = await page.call(seen.rows);
   verdict('the example is read', rows.length === 5 && rows[0][3] === 'answered Create'
-    && rows.every(it => /^(answered|failed)/.test(it[3])), rows);
+    && rows.every(row => /^(answered|failed)/.test(row[3])), rows);
   const button = () => ['aria-expanded', 'aria-label']
-    .map(it => document.querySelector('tr.exchange button').getAttribute(it));
+    .map(name => document.querySelector('tr.exchange button').getAttribute(name));
   const closed = await page.call(button);
   await page.call(seen.focus, 'tr.exchange button');
   await page.press('Enter');
@@ -338,12 +339,12 @@ async function assistive({ verdict }, page) {
     && opened[0] === 'true' && opened[1] === '#1 Create 5f0c9a3e-backup answered Create',
       [closed, opened]);
   const live = await page.call(() => [...document.querySelectorAll('[aria-live], [role=status]')]
-    .map(it => it.id));
+    .map(region => region.id));
   verdict('the summary alone is live', String(live) === 'summary', live);
   await page.call(seen.click, '.show-bytes');
   const small = await page.call(() => [...document.querySelectorAll('button, summary, input')]
-    .filter(it => it.checkVisibility() && it.offsetHeight < 24)
-    .map(it => it.outerHTML.slice(0, 80)));
+    .filter(target => target.checkVisibility() && target.offsetHeight < 24)
+    .map(target => target.outerHTML.slice(0, 80)));
   verdict('each target has 24 px', small.length === 0, small);
 }
 async function keyboardCopy({ verdict, native, file }, page) {
@@ -355,15 +356,15 @@ async function keyboardCopy({ verdict, native, file }, page) {
   const isSaid = await until(page, 10, () =>
     document.querySelector('tr.opened .copy').textContent === 'copied');
   await page.call(() => {
-    const it = document.createElement('textarea');
-    it.id = 'scratch';
-    document.body.append(it);
+    const area = document.createElement('textarea');
+    area.id = 'scratch';
+    document.body.append(area);
   });
   await page.pasteInto('scratch');
   const got = await page.call(() => {
-    const it = document.getElementById('scratch');
-    it.remove();
-    return it.value;
+    const area = document.getElementById('scratch');
+    area.remove();
+    return area.value;
   });
   verdict('the skeleton is copied by the keyboard, and pasted', isSaid
     && got === native('web_skeleton', file('first', messages.exchange(1, 32)[0])), got);

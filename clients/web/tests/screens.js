@@ -29,7 +29,7 @@ async function opened(page, shot) {
     const message = document.querySelectorAll('.message')[1];
     message.querySelector('.show-bytes').click();
     const row = [...message.querySelectorAll('.row')]
-      .find(it => it.querySelector('.name').textContent === 'Unique Identifier');
+      .find(item => item.querySelector('.name').textContent === 'Unique Identifier');
     row.dispatchEvent(new MouseEvent('click', { bubbles: true }));
     message.scrollIntoView();
   });

@@ -1,14 +1,14 @@
 -- What C is told of a call of any operation.
-use Rattle.std.proofs.Common.{◌≡◌, ℕ, ℤ, pos, List, length, Option, Some, None, Result, Ok, Err, IfOk, MatchOption, ap, subst, ◌∙◌}
+use Rattle.std.proofs.Common.{◌≡◌, ℕ, ℤ, pos, Bool, List, length, Option, Some, None, Result, Ok, Err, IfOk, MatchOption, ap, subst, ◌∙◌}
 use Rattle.kmip_client.specs.Operation.{TreeRequest, operation_bytes}
 use Rattle.kmip_words.specs.Exchange.{Settings}
 use Rattle.kmip_words.specs.declared.ending.Ending.{Ending}
 use Rattle.kmip_operations.specs.Answers.{operation_json_line, operation_ending}
 use Rattle.kmip_operations.specs.JsonLines.{IsTextLine}
-use Rattle.kmip_c.specs.Calls.{plain, status_of}
+use Rattle.kmip_c.specs.Calls.{id_of, no_settings, status_of}
 use Rattle.kmip_exports.specs.Exports.{IsReported, room_with}
 use Rattle.kmip_c.specs.Codes.{no_form}
-use Rattle.kmip_c.specs.Operations.{id_of, AsksInBytes, AsksForNone, IsOperationRequested, IsOperationAnswered}
+use Rattle.kmip_c.specs.Operations.{form_of, AsksInBytes, AsksForNone, IsOperationRequested, IsOperationAnswered}
 use Rattle.kmip_operations.specs.Calls.{Asks, request_of}
 use Rattle.kmip_operations.specs.declared.call.OperationCall.{OperationCall}
 use Rattle.kmip_operations.proofs.Asked.{with_id}
@@ -53,11 +53,12 @@ operation_requested settings s request name version id payload before after resu
     IsOperationRequested.asked s is request asks (subst P made reported)
 
 pub operation_answered : (request : TreeRequest)
-    (name version id payload response before after line : List ℕ) (ending : Ending) (status told : ℤ) →
-    AsksInBytes name version id payload request → ending ≡ operation_ending plain request response
-    → line ≡ operation_json_line plain request response → IsTextLine line →
+    (name version id payload response before after line : List ℕ) (plain : Bool) (ending : Ending)
+    (status told : ℤ) →
+    AsksInBytes name version id payload request → ending ≡ operation_ending no_settings request response
+    → line ≡ operation_json_line (form_of plain) no_settings request response → IsTextLine line →
     status ≡ status_of ending → told ≡ pos (length line) → after ≡ room_with line before
-    → IsOperationAnswered name version id payload response status before told after
-operation_answered request name version id payload response before after line ending status told asks e l json s n w =
+    → IsOperationAnswered name version id payload response plain status before told after
+operation_answered request name version id payload response before after line plain ending status told asks e l json s n w =
     IsOperationAnswered.answered request asks (s ∙ ap status_of e) (subst IsTextLine l json)
     (n ∙ ap (λ (x : List ℕ). pos (length x)) l, w ∙ ap (λ (x : List ℕ). room_with x before) l)

@@ -1,35 +1,17 @@
-//! Calls and credentials, given by C as bytes.
-ghost use Rattle.std.specs.Prelude.{◌≡◌, IfOk, map, option_map};
-ghost use Rattle.kmip_c.specs.Calls.{call_of, settings_of, settings_with};
+//! Credentials and IDs, given by C as bytes.
+ghost use Rattle.std.specs.Prelude.{◌≡◌, IfOk, option_map};
+ghost use Rattle.kmip_c.specs.Calls.{id_of, settings_of, settings_with};
 
-use kmip_wire::{List, OutOfMemory, Text};
-use kmip_words::{Call, Settings, typed_call, words_of};
+use kmip_wire::{OutOfMemory, Text};
+use kmip_words::Settings;
 use std::alloc::Global;
 use std::str;
 
-/// Copies of the words.
-pub fn texts_of(alloc: Global, words: &[&str]) -> Result<List<Text>, OutOfMemory>
-    ensures { IfOk result (λ texts. texts ≡ map (λ word. word.now) words.now) }
+/// The Unique Batch Item ID of a request: none where it is no bytes.
+pub fn id_of(id: &[u8]) -> Option<&[u8]>
+    ensures { option_map (λ id. id.now) result ≡ id_of id.now }
 {
-    let mut texts = List::new(alloc);
-    for word in words {
-        texts.push(Text::of(alloc, word)?)?;
-    }
-    Ok(texts)
-}
-
-/// The call of a line; `None` where the line is not of the grammar.
-pub fn call_of(alloc: Global, line: &[u8]) -> Result<Option<Call>, OutOfMemory>
-    ensures { IfOk result (λ call. call ≡ call_of line.now) }
-{
-    let Ok(line) = str::from_utf8(line) else {
-        return Ok(None);
-    };
-    let Some(words) = words_of(alloc, line)? else {
-        return Ok(None);
-    };
-    let words = texts_of(alloc, &words)?;
-    typed_call(alloc, words.as_slice())
+    if id.is_empty() { None } else { Some(id) }
 }
 
 /// A user name and a password, where a request is to carry them.

@@ -3,38 +3,48 @@
 //!
 //! It opens nothing and keeps nothing: the caller has the connection, sends the bytes of
 //! `kmip_request`, reads 8 bytes, asks `kmip_contents_len` how many follow, reads them, and passes
-//! all to `kmip_answer`. `kmip_value` returns single values of an answer, and `kmip_refusal` why a
-//! line is no call. `kmip_operation_request` and `kmip_operation_answer` do the same for any
-//! operation, and `kmip_operation_refusal` tells why there is no such call. No function has a
-//! precondition on its arguments, since nothing checks a caller in C.
+//! all to `kmip_answer`. `kmip_value` returns single values of an answer, and `kmip_refusal` why
+//! words are no call. A call is given by its words as they are: texts in UTF-8, and data. For an
+//! operation by its name with a payload in JSON there are `kmip_operation_request` and
+//! `kmip_operation_answer`, and `kmip_operation_refusal` tells why there is no such call. No function
+//! has a precondition on its arguments, since nothing checks a caller in C.
 #![tactic(auto)]
 
 ghost use Rattle.std.specs.Prelude.{◌≡◌, ◌≢◌, pos};
-ghost use Rattle.kmip_c.specs.Calls.{call_of, call_with_path, settings_of};
-ghost use Rattle.kmip_c.specs.Calls.{IsRequested, IsAnswered, IsValueReported};
+ghost use Rattle.kmip_calls.specs.Calls.{call_of};
+ghost use Rattle.kmip_c.specs.Calls.{id_of, settings_of};
+ghost use Rattle.kmip_c.specs.Calls.{IsRequested, IsAnswered, IsExplained, IsValueReported};
 ghost use Rattle.kmip_c.specs.Operations.{IsOperationRequested, IsOperationAnswered};
-ghost use Rattle.kmip_c.specs.Operations.{IsOperationRefused};
-ghost use Rattle.kmip_c.specs.Refusals.{IsRefusalReported};
+ghost use Rattle.kmip_c.specs.Operations.{form_of, IsOperationRefused};
 ghost use Rattle.kmip_exports.specs.Exports.{memory};
 ghost use Rattle.kmip_c.specs.Codes.{limit_of, contents_code};
 
 mod answer;
+#[cfg(test)]
+mod answer_tests;
 mod call;
 mod operation;
 #[cfg(test)]
 mod operation_tests;
-mod refusal;
 #[cfg(test)]
-mod tests;
+mod refusal_tests;
+#[cfg(test)]
+mod request_tests;
+#[cfg(test)]
+mod test_words;
+#[cfg(test)]
+mod value_tests;
 
-use answer::{answer_line, status_of};
-use call::{call_of, settings_of};
+use answer::status_of;
+use call::{id_of, settings_of};
+use kmip_calls::{
+    Word, answer_to_words, call_of_words, refusal_of_words, request_of_words, value_in,
+};
 use kmip_exports::{NO_MEMORY, NOT_A_MESSAGE, copy_out};
-use kmip_operations::{operation_answer, operation_request};
+use kmip_operations::{PayloadForm, operation_answer, operation_request};
 use kmip_wire::{Config, HeadError, OutOfMemory, head};
-use kmip_words::{Settings, request_of, value_at};
+use kmip_words::Settings;
 use operation::{operation_of, operation_refusal};
-use refusal::refusal_of_line;
 use std::alloc::Global;
 use std::str;
 
@@ -46,28 +56,34 @@ const TOO_LONG: i64 = -4;
 
 const NO_FORM: i64 = -6;
 
+/// The status of words that are no call.
+const NO_CALL: i32 = 2;
+
 /// Writes the request of a call, its one canonical message, to `into`, and returns how many bytes
 /// it has. Where they do not fit, nothing is written.
 ///
-/// `call` is a line as `sign ID HEX`. With `has_credential` the request carries this user name and
-/// password. After each code nothing is written:
+/// `words` are the call's name, its words and its options, as `sign`, an ID and data. `id` is the
+/// Unique Batch Item ID of the request of an operation's call (KMIP 1.0, 6.4), none where it is no
+/// bytes; that of a typed call has none. With `has_credential` the request carries this user name
+/// and password. After each code nothing is written:
 ///
-/// - -2: the call is not of the grammar, or has an empty identifier, or both `prehashed` and `hash=`;
-///   or the user name or the password is not UTF-8.
+/// - -2: the words are no call, as `kmip_refusal` explains; or the user name or the password is not
+///   UTF-8.
 /// - -5: memory ran out.
 /// - -6: the request has no wire form.
 #[unsafe(no_mangle)]
 pub extern "C" fn kmip_request(
     alloc: Global,
-    call: &[u8],
+    words: &[Word],
+    id: &[u8],
     has_credential: bool,
     user: &[u8],
     password: &[u8],
     into: &mut [u8],
 ) -> i64
     ensures request { result ≢ memory →
-        IsRequested (settings_of has_credential user.now password.now) (call_of call.now) into.old
-        result into.new }
+        IsRequested (settings_of has_credential user.now password.now)
+        (call_of words.now (id_of id.now)) into.old result into.new }
     ensures memory { result ≡ memory → into.new ≡ into.old }
 {
     let settings = match settings_of(alloc, has_credential, user, password) {
@@ -75,37 +91,35 @@ pub extern "C" fn kmip_request(
         Ok(None) => return NOT_OF_THE_GRAMMAR,
         Err(OutOfMemory) => return NO_MEMORY,
     };
-    let call = match call_of(alloc, call) {
+    let call = match call_of_words(alloc, words, id_of(id)) {
         Ok(Some(call)) => call,
         Ok(None) => return NOT_OF_THE_GRAMMAR,
         Err(OutOfMemory) => return NO_MEMORY,
     };
-    match request_of(alloc, &settings, &call) {
+    match request_of_words(alloc, &settings, &call) {
         Ok(Some(request)) => copy_out(request.as_slice(), into),
         Ok(None) => NO_FORM,
         Err(OutOfMemory) => NO_MEMORY,
     }
 }
 
-/// Writes why a line is no call to `into`, as a text, and returns how many bytes it has. Where they
+/// Writes why words are no call to `into`, as a text, and returns how many bytes it has. Where they
 /// do not fit, nothing is written.
 ///
 /// The text names the word that is wrong, and says what may stand there, as
 /// `sign: hash=sha384 is none of MD2, MD4, ..`. It shows the call's name and a word that is to be
 /// one of several names, and no word else. After each code nothing is written:
 ///
-/// - -2: the line is not UTF-8, or has not one space between two words.
-/// - -3: the line is a call.
+/// - -3: the words are a call.
 /// - -5: memory ran out.
 #[unsafe(no_mangle)]
-pub extern "C" fn kmip_refusal(alloc: Global, call: &[u8], into: &mut [u8]) -> i64
-    ensures refusal { result ≢ memory → IsRefusalReported call.now into.old result into.new }
+pub extern "C" fn kmip_refusal(alloc: Global, words: &[Word], into: &mut [u8]) -> i64
+    ensures refusal { result ≢ memory → IsExplained words.now into.old result into.new }
     ensures memory { result ≡ memory → into.new ≡ into.old }
 {
-    match refusal_of_line(alloc, call) {
-        Ok(Some(Some(text))) => copy_out(text.as_str().as_bytes(), into),
-        Ok(Some(None)) => NO_VALUE,
-        Ok(None) => NOT_OF_THE_GRAMMAR,
+    match refusal_of_words(alloc, words) {
+        Ok(Some(text)) => copy_out(text.as_str().as_bytes(), into),
+        Ok(None) => NO_VALUE,
         Err(OutOfMemory) => NO_MEMORY,
     }
 }
@@ -147,81 +161,86 @@ pub extern "C" fn kmip_contents_len(bytes: &[u8], limit: u32) -> i64
 /// to how many bytes the line has. Where they do not fit, nothing is written. What stands after the
 /// first message of `response` is not looked at.
 ///
-/// It returns one of these; after 2 and 5 there is no line, and `length` is 0:
+/// The call is given as to `kmip_request`. The line is `{"answer":..}` with the payload as an object
+/// of its members, or the error. It returns one of these; after 2 and 5 there is no line, and
+/// `length` is 0:
 ///
 /// - 0: the response is valid and reports success.
 /// - 1: the answer is an error, and the connection is good for the next call.
-/// - 2: the call is not of the grammar.
+/// - 2: the words are no call.
 /// - 3: the response ends early, or is no well-formed message, or is none to this call: it has not
-///   one batch item, is of another operation, answers about another object than the call asked
-///   about, or lacks what was asked for. The connection is to be closed.
+///   one batch item, is of another operation, or has another Unique Batch Item ID; or, of a typed
+///   call, answers about another object than the call asked about, or lacks what was asked for. The
+///   connection is to be closed.
 /// - 5: memory ran out.
 #[unsafe(no_mangle)]
 pub extern "C" fn kmip_answer(
     alloc: Global,
-    call: &[u8],
+    words: &[Word],
+    id: &[u8],
     response: &[u8],
     into: &mut [u8],
     length: &mut i64,
 ) -> i32
     ensures answer { result ≢ pos 5 →
-        IsAnswered (call_of call.now) response.now result into.old length.new into.new }
+        IsAnswered (call_of words.now (id_of id.now)) response.now result into.old length.new
+        into.new }
     ensures memory { result ≡ pos 5 → (length.new ≡ pos 0) × (into.new ≡ into.old) }
 {
-    match answer_line(alloc, call, response) {
-        Ok(Some(answer)) => {
-            *length = copy_out(answer.line.as_str().as_bytes(), into);
+    *length = 0;
+    let call = match call_of_words(alloc, words, id_of(id)) {
+        Ok(Some(call)) => call,
+        Ok(None) => return NO_CALL,
+        Err(OutOfMemory) => return 5,
+    };
+    let settings = Settings::new(None, None, None);
+    match answer_to_words(alloc, &settings, &call, response) {
+        Ok(answer) => {
+            *length = copy_out(&answer.line, into);
             status_of(answer.ending)
         }
-        Ok(None) => {
-            *length = 0;
-            2
-        }
-        Err(OutOfMemory) => {
-            *length = 0;
-            5
-        }
+        Err(OutOfMemory) => 5,
     }
 }
 
-/// Writes a single value of the answer that a response is to a call to `into`, and returns how many
-/// bytes it has. Where they do not fit, nothing is written. The answer is the one that
-/// `kmip_answer` writes as JSON.
+/// Writes a single value of an answer to `into`, and returns how many bytes it has. Where they do
+/// not fit, nothing is written. `line` is one that `kmip_answer` or `kmip_operation_answer` wrote.
 ///
-/// `path` leads to the value by the names that the JSON has below `{"answer":`, with a dot between
-/// two, and the index of an item of a list in decimal digits, counted from 0, as
-/// `attributes.0.name`. With `hex` false, a text is written as its bytes, without quotes and
-/// escapes, a number as its decimal digits, and the rest as `true` or `false`. With `hex` true, a
-/// string of hex digits is written as the bytes that it stands for. After each code nothing is
-/// written:
+/// `path` leads to the value below `{"answer":`, with a dot between two names. In an answer as an
+/// object they are those of its members, and the index of an item of a list in decimal digits,
+/// counted from 0, as `attributes.0.name`. In an answer as a tree they are the tags of items, and
+/// behind a tag the number of items with it that stand before, as `Attribute.1.AttributeName`, where
+/// no number is 0.
 ///
-/// - -2: the call is not of the grammar, or the path is not UTF-8.
-/// - -3: there is no such value. The answer is an error; or it has nothing at this path, or an
-///   object or a list; or `hex` is true, and there is no string of hex digits.
+/// With `hex` false, a text is written as its bytes, without quotes and escapes, a number as its
+/// decimal digits, and the rest as `true` or `false`. With `hex` true, a string of hex digits is
+/// written as the bytes that it stands for; in a tree that of a Byte String or a Big Integer. After
+/// each code nothing is written:
+///
+/// - -2: the line or the path is not UTF-8.
+/// - -3: there is no such value. The answer is an error, or the line is none; or it has nothing at
+///   this path, or an object, a list or a structure; or `hex` is true, and there is no string of hex
+///   digits.
 /// - -5: memory ran out.
 #[unsafe(no_mangle)]
 pub extern "C" fn kmip_value(
     alloc: Global,
-    call: &[u8],
-    response: &[u8],
+    line: &[u8],
     path: &[u8],
     hex: bool,
     into: &mut [u8],
 ) -> i64
     ensures value { result ≢ memory →
-        IsValueReported (call_with_path call.now path.now) response.now path.now hex into.old result
-        into.new }
+        IsValueReported line.now path.now hex into.old result into.new }
     ensures memory { result ≡ memory → into.new ≡ into.old }
 {
+    let Ok(line) = str::from_utf8(line) else {
+        return NOT_OF_THE_GRAMMAR;
+    };
     let Ok(path) = str::from_utf8(path) else {
         return NOT_OF_THE_GRAMMAR;
     };
-    let answer = match answer_line(alloc, call, response) {
-        Ok(Some(answer)) => answer,
-        Ok(None) => return NOT_OF_THE_GRAMMAR,
-        Err(OutOfMemory) => return NO_MEMORY,
-    };
-    match value_at(alloc, path, hex, answer.line.as_str()) {
+    match value_in(alloc, path, hex, line) {
         Ok(Some(value)) => copy_out(&value, into),
         Ok(None) => NO_VALUE,
         Err(OutOfMemory) => NO_MEMORY,
@@ -275,12 +294,24 @@ pub extern "C" fn kmip_operation_request(
     }
 }
 
+/// How a payload is written.
+fn form_of(plain: bool) -> PayloadForm
+    ensures { result ≡ form_of plain }
+{
+    if plain {
+        PayloadForm::Plain
+    } else {
+        PayloadForm::Tree
+    }
+}
+
 /// Writes the answer that a response is to a call of any operation to `into`, as a line of JSON,
 /// and sets `length` to how many bytes the line has. Where they do not fit, nothing is written.
 /// What stands after the first message of `response` is not looked at.
 ///
-/// The call is given as to `kmip_operation_request`. The line has the response's payload as
-/// `{"answer":TREE}`, in the JSON of that encoding, or the error. The statuses are those of
+/// The call is given as to `kmip_operation_request`. The line has the response's payload, or the
+/// error: as `{"answer":TREE}` in the JSON of that encoding, or with `plain` as an object of its
+/// members, as `kmip_answer` writes it. The statuses are those of
 /// `kmip_answer`: after 2 and 5 there is no line, and `length` is 0. But the object that the answer
 /// is about is not compared with that of the call. Where the call has a Unique Batch Item ID, a
 /// response with another or none is none to the call: the status is 3, unless it is a failure that
@@ -293,22 +324,23 @@ pub extern "C" fn kmip_operation_answer(
     id: &[u8],
     payload: &[u8],
     response: &[u8],
+    plain: bool,
     into: &mut [u8],
     length: &mut i64,
 ) -> i32
     ensures answer { result ≢ pos 5 →
-        IsOperationAnswered name.now version.now id.now payload.now response.now result into.old
-        length.new into.new }
+        IsOperationAnswered name.now version.now id.now payload.now response.now plain result
+        into.old length.new into.new }
     ensures memory { result ≡ pos 5 → (length.new ≡ pos 0) × (into.new ≡ into.old) }
 {
     *length = 0;
     let call = match operation_of(alloc, name, version, id, payload) {
         Ok(Some(call)) => call,
-        Ok(None) => return 2,
+        Ok(None) => return NO_CALL,
         Err(OutOfMemory) => return 5,
     };
     let settings = Settings::new(None, None, None);
-    match operation_answer(alloc, &settings, &call, response) {
+    match operation_answer(alloc, &settings, &call, response, form_of(plain)) {
         Ok(answer) => {
             *length = copy_out(&answer.line, into);
             status_of(answer.ending)

@@ -1,22 +1,17 @@
 //! Calls of any operation, given by C as bytes.
-ghost use Rattle.std.specs.Prelude.{◌≡◌, ℕ, List, option_map, IfOk, MatchOption};
+ghost use Rattle.std.specs.Prelude.{◌≡◌, ℕ, List, IfOk, MatchOption};
 ghost use Rattle.kmip_client.specs.Operation.{TreeRequest};
 ghost use Rattle.kmip_operations.specs.Calls.{Asks, request_of};
-ghost use Rattle.kmip_c.specs.Operations.{id_of, AsksInBytes, AsksForNone};
+ghost use Rattle.kmip_c.specs.Calls.{id_of};
+ghost use Rattle.kmip_c.specs.Operations.{AsksInBytes, AsksForNone};
 
+use crate::call::id_of;
 use kmip_operations::{
     OperationCall, operation_call, operation_named, payload_refusal, version_written,
 };
 use kmip_wire::{OutOfMemory, Text};
 use std::alloc::Global;
 use std::str;
-
-/// The Unique Batch Item ID of a request: none where it is no bytes.
-fn id_of(id: &[u8]) -> Option<&[u8]>
-    ensures { option_map (λ id. id.now) result ≡ id_of id.now }
-{
-    if id.is_empty() { None } else { Some(id) }
-}
 
 /// The call that a name, a version, a Unique Batch Item ID, where it is not empty, and a payload in
 /// JSON ask for; `None` where they ask for none, whatever the ID.

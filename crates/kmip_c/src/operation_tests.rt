@@ -43,6 +43,7 @@ fn answer_to(
     alloc: Global,
     words: Words,
     response: &[u8],
+    plain: bool,
     into: &mut [u8],
     length: &mut i64,
 ) -> i32 {
@@ -53,6 +54,7 @@ fn answer_to(
         words.id,
         words.payload,
         response,
+        plain,
         into,
         length,
     )
@@ -148,7 +150,7 @@ fn what_is_no_call_has_a_code(rt: HostRuntime) {
     let mut length = 7;
     for words in NO_CALLS {
         assert!(rt; request(alloc, *words, false, b"", b"", &mut into) == -2);
-        assert!(rt; answer_to(alloc, *words, &[], &mut into, &mut length) == 2);
+        assert!(rt; answer_to(alloc, *words, &[], false, &mut into, &mut length) == 2);
         assert!(rt; length == 0);
     }
     assert!(rt; request(alloc, NO_FORM, false, b"", b"", &mut into) == -6);
@@ -238,7 +240,7 @@ fn are_answered(
         let response = message(alloc, row.response)?;
         let mut line = [7u8; 300];
         let mut length = 0;
-        let status = answer_to(alloc, words, &response, &mut line, &mut length);
+        let status = answer_to(alloc, words, &response, false, &mut line, &mut length);
         assert!(rt; status == row.status, "{}", row.response);
         assert!(rt; length == row.line.len() as i64, "{}", row.response);
         assert!(rt; line.starts_with(row.line.as_bytes()), "{}", row.response);
@@ -249,6 +251,19 @@ fn are_answered(
 #[test]
 fn responses_are_answered(rt: HostRuntime) -> Result<(), Fail> {
     are_answered(&rt, rt.alloc(), DECRYPT, ANSWERS)
+}
+
+#[test]
+fn a_payload_is_written_plain_where_that_is_asked(rt: HostRuntime) -> Result<(), Fail> {
+    let alloc: Global = rt.alloc();
+    let response = message(alloc, "OK2(20, 94 \"k1\",C2 xDEADBEEF)")?;
+    let expected = b"{\"answer\":{\"unique_identifier\":\"k1\",\"data\":\"DEADBEEF\"}}\n";
+    let mut line = [7u8; 300];
+    let mut length = 0;
+    assert!(rt; answer_to(alloc, DECRYPT, &response, true, &mut line, &mut length) == 0);
+    assert!(rt; length == expected.len() as i64);
+    assert!(rt; line.starts_with(expected));
+    Ok(())
 }
 
 /// The same with a Unique Batch Item ID (KMIP 1.0, 6.4).

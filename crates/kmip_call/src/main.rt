@@ -8,13 +8,9 @@
 //! says.
 #![tactic(auto)]
 
-mod operation;
-
-use crate::operation::{Wording, file_of_bytes, is_of_table, operations_text, with_id, words_for};
-use hex::encode;
 use kmip_caller::{
     CLOSED_STREAM, Command, LastError, NO_FILE, NOT_UTF8, Order, Status, WRONG_LIMIT, Watched,
-    command_of, file_in, grammar_json, help_text, refuse, run, with_contents,
+    command_of, file_in, grammar_json, help_text, operations_text, refuse, run, with_contents,
 };
 use kmip_link::{MemorySink, Sink, StdSink, StdSource};
 use kmip_wire::{List, OutOfMemory, Text};
@@ -26,7 +22,7 @@ use std::os::fd::AsRawFd;
 use std::os::unix::fs::{FileExt, OpenOptionsExt};
 use std::process::ExitCode;
 
-const VERSION: &str = "kmip_call 1.0\n";
+const VERSION: &str = "kmip_call 2.0\n";
 
 /// Why the words or the password of the environment are not had.
 #[derive(Drop)]
@@ -113,21 +109,33 @@ fn contents_of(rt: &HostRuntime, name: &str) -> Result<Result<Vec<u8>, Text>, Ou
     }
 }
 
-/// Puts what a file has in the place of the word of a call that names it, where one does. It
-/// returns why it cannot.
-fn fill(rt: &HostRuntime, order: &mut Order) -> Result<Option<Text>, OutOfMemory> {
-    let Some(name) = file_in(order.words.as_slice()) else {
+/// Puts what a file has in the place of the word of a call that names it, where the word at this
+/// place does. It returns why it cannot.
+fn fill_at(rt: &HostRuntime, place: usize, order: &mut Order) -> Result<Option<Text>, OutOfMemory> {
+    let Some(name) = file_in(order.words.as_slice(), place) else {
         return Ok(None);
     };
     let contents = match contents_of(rt, name)? {
         Ok(contents) => contents,
         Err(why) => return Ok(Some(why)),
     };
-    let Some(words) = with_contents(rt.alloc(), &contents, order.words.as_slice())? else {
+    let Some(words) = with_contents(rt.alloc(), &contents, place, order.words.as_slice())? else {
         let why = format!(in rt.alloc(); "@{name} is no JSON: it is not UTF-8")?;
         return Ok(Some(Text::of_string(why)));
     };
     order.words = words;
+    Ok(None)
+}
+
+/// Puts what files have in the places of the words of a call that name them. It returns why it
+/// cannot.
+fn fill(rt: &HostRuntime, order: &mut Order) -> Result<Option<Text>, OutOfMemory> {
+    for place in 0..order.words.len() {
+        let refusal = fill_at(rt, place, order)?;
+        if refusal.is_some() {
+            return Ok(refusal);
+        }
+    }
     Ok(None)
 }
 
@@ -216,63 +224,13 @@ fn perform(rt: &HostRuntime, order: &Order) -> Status {
     }
 }
 
-/// The words of a call of the table with what files have, in hex, in the place of those that name
-/// them; or why a file cannot be read.
-fn with_bytes(rt: &HostRuntime, words: &[Text]) -> Result<Result<List<Text>, Text>, OutOfMemory> {
-    let mut filled = List::new(rt.alloc());
-    for (place, word) in words.iter().enumerate() {
-        let Some(name) = file_of_bytes(words, place) else {
-            filled.push(Text::of(rt.alloc(), word.as_str())?)?;
-            continue;
-        };
-        match contents_of(rt, name)? {
-            Ok(contents) => filled.push(Text::of_string(encode(rt.alloc(), contents)?))?,
-            Err(why) => return Ok(Err(why)),
-        }
-    }
-    Ok(Ok(filled))
-}
-
-/// Puts `operation` with a payload in the place of the words of a call of the table. It returns why
-/// it cannot.
-fn reword(rt: &HostRuntime, order: &mut Order) -> Result<Option<Text>, OutOfMemory> {
-    let (id, words) = with_id(order.words.as_slice());
-    if !is_of_table(words) {
-        return Ok(None);
-    }
-    let words = match with_bytes(rt, words)? {
-        Ok(words) => words,
-        Err(why) => return Ok(Some(why)),
-    };
-    match words_for(rt.alloc(), id, words.as_slice())? {
-        Wording::Same => Ok(None),
-        Wording::Words(words) => {
-            order.words = words;
-            Ok(None)
-        }
-        Wording::Refused(why) => Ok(Some(why)),
-    }
-}
-
-/// Makes a call, whose words may name a file, and may be those of a call of the table, and returns
-/// the status. Where the file cannot be read, or the words are not those of the call, it is `NoCall`.
+/// Makes a call, whose words may name files, and returns the status. Where one cannot be read, that
+/// is `NoCall`, and nothing is sent.
 fn perform_named(rt: &HostRuntime, mut order: Order) -> Status {
-    let refusal = match fill(rt, &mut order) {
-        Ok(None) => reword(rt, &mut order),
-        refused => refused,
-    };
-    match refusal {
+    match fill(rt, &mut order) {
         Ok(None) => perform(rt, &order),
         Ok(Some(why)) => refuse_with(rt, why.as_str()),
         Err(OutOfMemory) => Status::OutOfMemory,
-    }
-}
-
-/// Whether the one word is `--operations`, which prints the calls of the table.
-fn asks_for_operations(words: &[Text]) -> bool {
-    match words {
-        [word] => word.as_str() == "--operations",
-        _ => false,
     }
 }
 
@@ -287,9 +245,6 @@ fn main(rt: HostRuntime) -> ExitCode {
         }
         _ => return ExitCode::from(refuse_with(&rt, NOT_UTF8).code()),
     };
-    if asks_for_operations(words.as_slice()) {
-        return ExitCode::from(say_made(&rt, operations_text(rt.alloc())).code());
-    }
     let password = match &password {
         Some(password) => Some(password.as_str()),
         None => None,
@@ -297,6 +252,7 @@ fn main(rt: HostRuntime) -> ExitCode {
     let status = match command_of(rt.alloc(), password, words.as_slice()) {
         Ok(Some(Command::Help)) => say_made(&rt, help_text(rt.alloc())),
         Ok(Some(Command::Grammar)) => say_made(&rt, grammar_json(rt.alloc())),
+        Ok(Some(Command::Operations)) => say_made(&rt, operations_text(rt.alloc())),
         Ok(Some(Command::Version)) => say(&rt, VERSION),
         Ok(Some(Command::Make(order))) => perform_named(&rt, order),
         Ok(None) => refuse_with(&rt, WRONG_LIMIT),

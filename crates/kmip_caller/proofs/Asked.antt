@@ -1,6 +1,6 @@
 -- What an order asks for.
 use Rattle.std.proofs.Common.{◌≡◌, ℕ, List, take, refl, ◌∙◌, ap, sym, subst, Bool, true, false, Option, Some, None, Result, if◌then◌else◌}
-use Rattle.std.specs.Option.{is_some}
+use Rattle.std.specs.Option.{is_some, option_and_then}
 use Rattle.std.proofs.Math.Seq.{take-length}
 use Rattle.kmip_client.specs.Message.{Message, message_at}
 use Rattle.kmip_wire.specs.Tree.{Tree}
@@ -13,6 +13,7 @@ use Rattle.kmip_words.specs.Calls.{typed_call}
 use Rattle.kmip_words.specs.Exchange.{Settings, request_asked, operation_asked}
 use Rattle.kmip_words.specs.About.{answer_about, ending_about, line_with}
 use Rattle.kmip_words.specs.declared.call.Call.{Call}
+use Rattle.kmip_plain.specs.declared.payload.PayloadForm.TheVariants.{Tree as AsTree, Plain as AsPlain}
 use Rattle.kmip_operations.specs.Answers.{tree_line, answer_to, tree_ending}
 use Rattle.kmip_operations.specs.Calls.{Asks, IsMessageText, request_of}
 use Rattle.kmip_operations.specs.declared.call.OperationCall.{OperationCall}
@@ -20,11 +21,14 @@ use Rattle.kmip_operations.proofs.Asked.{one_call, one_structure}
 use Rattle.kmip_tags.specs.Tags.{REQUEST_MESSAGE}
 use Rattle.kmip_caller.specs.Wire.{taken_at, IsOneAtMost}
 use Rattle.kmip_caller.specs.TreeWords.{TreeText, an_operation, a_message, tree_words, item_id}
+use Rattle.kmip_operation_words.specs.Calls.{table_request}
+use Rattle.kmip_caller.specs.TableWords.{with_id, table_words}
 use Rattle.kmip_caller.specs.Exchange.{Exchange, typed_exchange, operation_exchange, message_exchange}
-use Rattle.kmip_caller.specs.Asked.{is_allowed, call_for, AsksTree, AsksFor, tree, typed, AsksForNone, exchange_of, Requests}
+use Rattle.kmip_caller.specs.Asked.{is_allowed, call_for, AsksTree, AsksFor, tree, typed, table, AsksForNone, exchange_of, Requests}
 use Rattle.kmip_caller.specs.declared.command.Order.{Order}
 use Rattle.kmip_caller.specs.declared.requested.Asked.{Asked}
 use Rattle.kmip_caller.specs.declared.requested.Asked.TheVariants as found
+use Rattle.kmip_caller.proofs.Apart.{table_untyped}
 use Rattle.kmip_caller.proofs.Fronts.{same_message}
 
 -- ---- the bytes that are taken answer what all the bytes left do
@@ -55,16 +59,16 @@ exchange_reading settings (found.Typed call) = record {
   ending = λ rest bytes is one. same_by (read_answer (operation_asked call)) settings.limit
       (ending_about call) rest bytes is one;
 }
-exchange_reading settings (found.Operation call) = record {
+exchange_reading settings (found.Operation call form) = record {
   line = λ rest bytes is one. same_by (identified_answer call.operation call.id) settings.limit
-      (λ answer first. tree_line (answer_to (Some call.operation) answer first) first)
+      (λ answer first. tree_line form (answer_to (Some call.operation) answer first) first)
       rest bytes is one;
   ending = λ rest bytes is one. same_by (identified_answer call.operation call.id) settings.limit
       (tree_ending (Some call.operation) call.id) rest bytes is one;
 }
 exchange_reading settings (found.Message message) = record {
   line = λ rest bytes is one. same_by whole_answer settings.limit
-      (λ answer first. tree_line (answer_to None answer first) first) rest bytes is one;
+      (λ answer first. tree_line AsTree (answer_to None answer first) first) rest bytes is one;
   ending = λ rest bytes is one. same_by whole_answer settings.limit (tree_ending None None)
       rest bytes is one;
 }
@@ -74,6 +78,25 @@ exchange_reading settings (found.Message message) = record {
 both_words : {G : Type 0} (order : Order) (text : TreeText) → tree_words order.words ≡ Some text
     → tree_words order.words ≡ None → G
 both_words order text some none = absurd (cc)
+
+none_by : (allowed : Bool) (call : Option Call) → call ≡ None → (if allowed then call else None) ≡ None
+none_by true call is = is
+none_by false call is = refl
+
+-- words that are no typed call ask for none
+none_typed : (order : Order) → typed_call order.words ≡ None → call_for order ≡ None
+none_typed order is = none_by (is_allowed order.file order.words) (typed_call order.words) is
+
+call_clash : {G : Type 0} (found : Option Call) (call : Call) → found ≡ Some call → found ≡ None → G
+call_clash found call some none = absurd (cc)
+
+both_calls : {G : Type 0} (order : Order) (call : Call) → call_for order ≡ Some call
+    → typed_call order.words ≡ None → G
+both_calls order call some none = call_clash (call_for order) call some (none_typed order none)
+
+same_request : (order : Order) (a b : TreeRequest) → table_words order.words ≡ Some a
+    → table_words order.words ≡ Some b → a ≡ b
+same_request order a b first second = cc
 
 same_call : (order : Order) (a b : Call) → call_for order ≡ Some a → call_for order ≡ Some b → a ≡ b
 same_call order a b first second = cc
@@ -90,7 +113,7 @@ tree_once : (settings : Settings) (text : TreeText) (a b : Exchange) → AsksTre
 tree_once settings (an_operation name version hex payload) a b (request, given, asks, by)
     (wanted, found_is, asked, done) =
     let P : Option (List ℕ) → Type 0 = λ i. Asks name version i payload wanted in
-    by ∙ ap (operation_exchange settings)
+    by ∙ ap (operation_exchange AsTree settings)
     (one_call name version request.id payload request wanted asks
     (subst P (same_id hex wanted.id request.id found_is given) asked)) ∙ sym done
 tree_once settings (a_message text) a b (message, is, by) (wanted, are, done) =
@@ -104,8 +127,18 @@ asked_once order a b (tree none text is asks) (typed plain call found_is done) =
     both_words order text is plain
 asked_once order a b (typed plain call is by) (tree none text are asks) =
     both_words order text are plain
+asked_once order a b (tree none text is asks) (table unkept plain request found_is done) =
+    both_words order text is plain
 asked_once order a b (typed plain call is by) (typed also other are done) =
     by ∙ ap (typed_exchange order.settings) (same_call order call other is are) ∙ sym done
+asked_once order a b (typed plain call is by) (table unkept also request found_is done) =
+    both_calls order call is (table_untyped order.words request found_is)
+asked_once order a b (table unkept plain request is by) (tree none text are asks) =
+    both_words order text are plain
+asked_once order a b (table unkept plain request is by) (typed also call are done) =
+    both_calls order call are (table_untyped order.words request is)
+asked_once order a b (table unkept plain request is by) (table none also other are done) =
+    by ∙ ap (operation_exchange AsPlain order.settings) (same_request order request other is are) ∙ sym done
 
 -- ---- what the code finds
 
@@ -119,17 +152,74 @@ typed_asks order call asked request none allowed is found_is message = rw found_
   message = message;
 })
 
-none_by : (allowed : Bool) (call : Option Call) → call ≡ None → (if allowed then call else None) ≡ None
-none_by true call is = is
-none_by false call is = refl
-
--- words that are no typed call ask for none
-pub none_typed : (order : Order) → typed_call order.words ≡ None → call_for order ≡ None
-none_typed order is = none_by (is_allowed order.file order.words) (typed_call order.words) is
-
 none_in : (file : Option (List ℕ)) → is_some file ≡ false → file ≡ None
 none_in None e = refl
 none_in (Some f) e = absurd (cc)
+
+unallowed : (allowed : Bool) (call : Option Call) → allowed ≡ false
+    → (if allowed then call else None) ≡ None
+unallowed true call is = absurd (cc)
+unallowed false call is = refl
+
+-- a typed call that a script cannot hold is not made where it is to be recorded
+pub none_allowed : (order : Order) (call : Call) → tree_words order.words ≡ None
+    → typed_call order.words ≡ Some call → is_allowed order.file order.words ≡ false → AsksForNone order
+none_allowed order call none is not exchange (tree unkept text are asks) = both_words order text are none
+none_allowed order call none is not exchange (typed plain other found_is by) =
+    call_clash (call_for order) other found_is
+    (unallowed (is_allowed order.file order.words) (typed_call order.words) not)
+none_allowed order call none is not exchange (table unkept plain request found_is by) =
+    call_clash (typed_call order.words) call is (table_untyped order.words request found_is)
+
+-- ---- calls of the table
+
+pub words_of_table : (words rest : List (List ℕ)) (hex id : Option (List ℕ)) (asked : Option TreeRequest)
+    → hex ≡ (with_id words).value → rest ≡ (with_id words).rest → item_id hex ≡ Some id
+    → asked ≡ table_request rest id → table_words words ≡ asked
+words_of_table words rest hex id asked hex_is rest_is given is =
+    ap (option_and_then (table_request (with_id words).rest)) (ap item_id (sym hex_is) ∙ given)
+    ∙ ap (λ (l : List (List ℕ)). table_request l id) (sym rest_is) ∙ sym is
+
+pub words_of_none : (words : List (List ℕ)) (hex : Option (List ℕ)) → hex ≡ (with_id words).value
+    → item_id hex ≡ None → table_words words ≡ None
+words_of_none words hex hex_is none =
+    ap (option_and_then (table_request (with_id words).rest)) (ap item_id (sym hex_is) ∙ none)
+
+pub table_asks : (order : Order) (call : OperationCall) (request : Option (List ℕ))
+    → is_some order.file ≡ false → tree_words order.words ≡ None → table_words order.words ≡ Some (request_of call)
+    → request ≡ operation_bytes (request_of call) order.settings.credential
+    → Requests order (found.Operation call AsPlain) request
+table_asks order call request unkept none is message = record {
+  asks = table (none_in order.file unkept) none (request_of call) is refl;
+  message = message;
+}
+
+request_clash : {G : Type 0} (found : Option TreeRequest) (request : TreeRequest) → found ≡ Some request
+    → found ≡ None → G
+request_clash found request some none = absurd (cc)
+
+-- words that are neither a typed call nor one of the table ask for none
+pub none_of_table : (order : Order) → tree_words order.words ≡ None → typed_call order.words ≡ None
+    → table_words order.words ≡ None → AsksForNone order
+none_of_table order none untyped absent exchange (tree unkept text is asks) = both_words order text is none
+none_of_table order none untyped absent exchange (typed plain call is by) = both_calls order call is untyped
+none_of_table order none untyped absent exchange (table unkept plain request is by) =
+    request_clash (table_words order.words) request is absent
+
+file_clash : {G : Type 0} (file : Option (List ℕ)) (name : List ℕ) → file ≡ Some name → file ≡ None → G
+file_clash file name some none = absurd (cc)
+
+-- nor does a call of the table that is to be recorded
+pub none_of_table_kept : (order : Order) (name : List ℕ) → order.file ≡ Some name
+    → tree_words order.words ≡ None → typed_call order.words ≡ None → AsksForNone order
+none_of_table_kept order name kept none untyped exchange (tree unkept text is asks) =
+    both_words order text is none
+none_of_table_kept order name kept none untyped exchange (typed plain call is by) =
+    both_calls order call is untyped
+none_of_table_kept order name kept none untyped exchange (table unkept plain request is by) =
+    file_clash order.file name kept unkept
+
+-- ---- calls with JSON
 
 pub operation_asks : (order : Order) (name version : List ℕ) (hex : Option (List ℕ)) (payload : List ℕ)
     (id : Option (List ℕ)) (call : OperationCall) (request : Option (List ℕ))
@@ -137,7 +227,7 @@ pub operation_asks : (order : Order) (name version : List ℕ) (hex : Option (Li
     tree_words order.words ≡ Some (an_operation name version hex payload) →
     item_id hex ≡ Some id → Asks name version id payload (request_of call)
     → request ≡ operation_bytes (request_of call) order.settings.credential
-    → Requests order (found.Operation call) request
+    → Requests order (found.Operation call AsTree) request
 operation_asks order name version hex payload id call request unkept is given asks message =
     let P : Option (List ℕ) → Type 0 = λ i. Asks name version i payload (request_of call) in
     record {
@@ -169,6 +259,8 @@ none_with_id order name version hex payload id is given none exchange (tree unke
     (subst P (same_text order other (an_operation name version hex payload) are is) asks)
 none_with_id order name version hex payload id is given none exchange (typed plain call found_is by) =
     both_words order (an_operation name version hex payload) is plain
+none_with_id order name version hex payload id is given none exchange (table unkept plain request found_is by) =
+    both_words order (an_operation name version hex payload) is plain
 
 id_clash : {G : Type 0} (hex id : Option (List ℕ)) → item_id hex ≡ Some id → item_id hex ≡ None → G
 id_clash hex id some none = absurd (cc)
@@ -189,6 +281,8 @@ none_without_id order name version hex payload is none exchange (tree unkept oth
     (subst P (same_text order other (an_operation name version hex payload) are is) asks)
 none_without_id order name version hex payload is none exchange (typed plain call found_is by) =
     both_words order (an_operation name version hex payload) is plain
+none_without_id order name version hex payload is none exchange (table unkept plain request found_is by) =
+    both_words order (an_operation name version hex payload) is plain
 
 pub message_asks : (order : Order) (text : List ℕ) (whole : Tree) (request : Option (List ℕ))
     → is_some order.file ≡ false → tree_words order.words ≡ Some (a_message text) →
@@ -206,6 +300,7 @@ pub none_kept : (order : Order) (text : TreeText) → is_some order.file ≡ tru
     → tree_words order.words ≡ Some text → AsksForNone order
 none_kept order text kept is exchange (tree none other are asks) = kept_clash order kept none
 none_kept order text kept is exchange (typed plain call found_is by) = both_words order text is plain
+none_kept order text kept is exchange (table unkept plain request found_is by) = both_words order text is plain
 
 -- what an order asks for is not nothing
 pub asked_clash : {G : Type 0} (order : Order) (asked : Asked) (request : Option (List ℕ))

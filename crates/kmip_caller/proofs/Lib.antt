@@ -1,5 +1,6 @@
 pub mod Messages
 pub mod Fronts
+pub mod Apart
 pub mod Asked
 pub mod Exchanges
 pub mod Orders

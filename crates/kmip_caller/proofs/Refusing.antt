@@ -11,7 +11,15 @@ use Rattle.kmip_operations.specs.Calls.{operation_named, version_written}
 use Rattle.kmip_caller.specs.TreeWords.{TreeText, an_operation, a_message, tree_words, item_id}
 use Rattle.kmip_caller.specs.declared.command.Order.{Order}
 use Rattle.kmip_caller.specs.declared.status.Status.TheVariants.{NoCall, OutOfMemory}
-use Rattle.kmip_caller.specs.Refusal.{IsWrongBy, IsWrongTree, IsNoTree, IsWhyNotBy, IsWhyNot, IsRefusal, IsRefusalWritten, grammar_line, not_typed}
+use Rattle.kmip_words.specs.Complaints.{refusal as words_refusal}
+use Rattle.kmip_words.specs.Options.{Given}
+use Rattle.kmip_words.specs.declared.call.Call.{Call}
+use Rattle.kmip_operation_words.specs.Calls.{row_in}
+use Rattle.kmip_operation_words.specs.Refusals.{IsWrong, with_form, IsRefusal as IsTableRefusal}
+use Rattle.kmip_operation_words.specs.Rows.{Row}
+use Rattle.kmip_operation_words.specs.Table.{calls}
+use Rattle.kmip_caller.specs.TableWords.{with_id, is_of_table}
+use Rattle.kmip_caller.specs.Refusal.{IsWrongBy, IsWrongTree, IsNoTree, IsWrongRow, IsNoRow, IsUntyped, IsNotTyped, IsWhyNotBy, IsWhyNot, IsRefusal, IsRefusalWritten, grammar_line}
 use Rattle.kmip_caller.proofs.Exchanges.{append_none}
 
 -- nothing at all is a first part of a text
@@ -33,9 +41,34 @@ no_tree : (file : Option (List ℕ)) (words : TreeText) → (text : List ℕ) ×
 no_tree (Some file) words = (codes "a record cannot hold these words", refl)
 no_tree None words = wrong_tree words
 
+some_wrong : (row : Option Row) → (text : List ℕ) × IsWrong row text
+some_wrong (Some row) =
+    (with_form row [], ([], refl))
+some_wrong None = (codes "the first word is the name of no call", refl)
+
+some_table_refusal : (words : List (List ℕ)) → (text : List ℕ) × IsTableRefusal words text
+some_table_refusal [] = (codes "there are no words", refl)
+some_table_refusal (name ∷ words) = some_wrong (row_in calls name)
+
+wrong_row : (no_id : Bool) (words : List (List ℕ)) → (text : List ℕ) × IsWrongRow no_id words text
+wrong_row true words = (codes "item-id= takes an even number of hex digits, at least two", refl)
+wrong_row false words = some_table_refusal words
+
+no_row : (file : Option (List ℕ)) (given : Given) → (text : List ℕ) × IsNoRow file given text
+no_row (Some file) given = (codes "a record cannot hold these words", refl)
+no_row None given = wrong_row (is_none (item_id given.value)) given.rest
+
+untyped : (of_table : Bool) (order : Order) → (text : List ℕ) × IsUntyped of_table order text
+untyped true order = no_row order.file (with_id order.words)
+untyped false order = (words_refusal order.words, refl)
+
+not_typed : (call : Option Call) (order : Order) → (text : List ℕ) × IsNotTyped call order text
+not_typed (Some call) order = (codes "a record cannot hold these words", refl)
+not_typed None order = untyped (is_of_table order.words) order
+
 why_not_by : (words : Option TreeText) (order : Order) → (text : List ℕ) × IsWhyNotBy words order text
 why_not_by (Some words) order = no_tree order.file words
-why_not_by None order = (not_typed (typed_call order.words) order.words, refl)
+why_not_by None order = not_typed (typed_call order.words) order
 
 refusal_of : (order : Order) → ((text : List ℕ) × IsWhyNot order text)
     → (line : List ℕ) × IsRefusal order line

@@ -5,9 +5,11 @@ use Rattle.kmip_client.specs.Operation.{TreeRequest}
 use Rattle.kmip_words.specs.Exchange.{Settings}
 use Rattle.kmip_words.specs.Calls.{typed_call}
 use Rattle.kmip_words.specs.declared.call.Call.{Call}
+use Rattle.kmip_plain.specs.declared.payload.PayloadForm.TheVariants.{Tree as AsTree, Plain as AsPlain}
 use Rattle.kmip_operations.specs.Calls.{Asks, IsMessageText, request_of}
 use Rattle.kmip_caller.specs.Record.{is_recordable, recorded_words}
 use Rattle.kmip_caller.specs.TreeWords.{TreeText, an_operation, a_message, tree_words, item_id}
+use Rattle.kmip_caller.specs.TableWords.{table_words}
 use Rattle.kmip_caller.specs.Exchange.{Exchange, typed_exchange, operation_exchange, message_exchange}
 use Rattle.kmip_caller.specs.declared.command.Order.{Order}
 use Rattle.kmip_caller.specs.declared.requested.Asked.{Asked}
@@ -27,18 +29,23 @@ call_for order = if is_allowed order.file order.words then typed_call order.word
 abbrev pub AsksTree : Settings → TreeText → Exchange → Type 0
 AsksTree settings (an_operation name version hex payload) exchange =
     (request : TreeRequest) × (item_id hex ≡ Some request.id)
-    × Asks name version request.id payload request × (exchange ≡ operation_exchange settings request)
+    × Asks name version request.id payload request
+    × (exchange ≡ operation_exchange AsTree settings request)
 AsksTree settings (a_message text) exchange =
     (message : Tree) × IsMessageText text message × (exchange ≡ message_exchange settings message)
 
--- The order asks for this exchange: by such words, where it is not to be recorded, or by those of a
--- typed call.
+-- The order asks for this exchange: by such words, where it is not to be recorded; by those of a
+-- typed call; or by those of the table, where it is not to be recorded, and then the payload of the
+-- answer is plain JSON.
 pub data AsksFor (order : Order) (exchange : Exchange) : Type 0 where
   tree : order.file ≡ None → (text : TreeText) → tree_words order.words ≡ Some text →
       AsksTree order.settings text exchange → AsksFor order exchange
   typed : tree_words order.words ≡ None →
       (call : Call) → call_for order ≡ Some call → exchange ≡ typed_exchange order.settings call →
       AsksFor order exchange
+  table : order.file ≡ None → tree_words order.words ≡ None →
+      (request : TreeRequest) → table_words order.words ≡ Some request →
+      exchange ≡ operation_exchange AsPlain order.settings request → AsksFor order exchange
 
 abbrev pub AsksForNone : Order → Type 0
 AsksForNone order = (exchange : Exchange) → AsksFor order exchange → ⊥
@@ -46,7 +53,7 @@ AsksForNone order = (exchange : Exchange) → AsksFor order exchange → ⊥
 -- the exchange of what the code found in the words
 abbrev pub exchange_of : Settings → Asked → Exchange
 exchange_of settings (asked.Typed call) = typed_exchange settings call
-exchange_of settings (asked.Operation call) = operation_exchange settings (request_of call)
+exchange_of settings (asked.Operation call form) = operation_exchange form settings (request_of call)
 exchange_of settings (asked.Message message) = message_exchange settings message
 
 -- The code found what the order asks for, and the request is that of its exchange: its one canonical

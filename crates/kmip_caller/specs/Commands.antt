@@ -7,7 +7,7 @@ use Rattle.kmip_words.specs.Values.{number_of}
 use Rattle.kmip_words.specs.Options.{Given, option_given, given_after}
 use Rattle.kmip_caller.specs.declared.command.Order.{Order}
 use Rattle.kmip_caller.specs.declared.command.Command.{Command}
-use Rattle.kmip_caller.specs.declared.command.Command.TheVariants.{Help, Version, Grammar, Make}
+use Rattle.kmip_caller.specs.declared.command.Command.TheVariants.{Help, Version, Grammar, Operations, Make}
 
 abbrev pub first_of : Option (List ℕ) → Option (List ℕ) → Option (List ℕ)
 first_of (Some text) second = Some text
@@ -57,6 +57,7 @@ one_word word other =
     if bytes_eq word (codes "--help") then Some Help
     else if bytes_eq word (codes "--version") then Some Version
     else if bytes_eq word (codes "--grammar") then Some Grammar
+    else if bytes_eq word (codes "--operations") then Some Operations
     else other
 
 -- the command of the words after the program's name

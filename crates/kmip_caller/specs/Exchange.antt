@@ -13,6 +13,7 @@ use Rattle.kmip_words.specs.About.{response_line, response_ending}
 use Rattle.kmip_words.specs.declared.call.Call.{Call}
 use Rattle.kmip_words.specs.declared.ending.Ending.{Ending}
 use Rattle.kmip_words.specs.declared.ending.Ending.TheVariants.{Refused, Lost}
+use Rattle.kmip_plain.specs.declared.payload.PayloadForm.{PayloadForm}
 use Rattle.kmip_operations.specs.Answers.{operation_json_line, operation_ending, message_json_line, message_ending}
 use Rattle.kmip_caller.specs.Wire.{taken_at, IsOneAtMost}
 
@@ -32,11 +33,11 @@ typed_exchange settings call = record {
   ending = response_ending settings call;
 }
 
--- a call of any operation
-abbrev pub operation_exchange : Settings → TreeRequest → Exchange
-operation_exchange settings request = record {
+-- a call of any operation, with this form of the payload in its answer
+abbrev pub operation_exchange : PayloadForm → Settings → TreeRequest → Exchange
+operation_exchange form settings request = record {
   message = operation_bytes request settings.credential;
-  line = operation_json_line settings request;
+  line = operation_json_line form settings request;
   ending = operation_ending settings request;
 }
 

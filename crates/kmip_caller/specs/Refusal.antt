@@ -8,7 +8,10 @@ use Rattle.kmip_words.specs.Streams.{WrotePart}
 use Rattle.kmip_words.specs.Calls.{typed_call}
 use Rattle.kmip_words.specs.Complaints.{refusal as words_refusal}
 use Rattle.kmip_words.specs.declared.call.Call.{Call}
+use Rattle.kmip_words.specs.Options.{Given}
 use Rattle.kmip_operations.specs.Calls.{operation_named, version_written}
+use Rattle.kmip_operation_words.specs.Refusals.{IsRefusal as IsTableRefusal}
+use Rattle.kmip_caller.specs.TableWords.{with_id, is_of_table}
 use Rattle.kmip_caller.specs.TreeWords.{TreeText, an_operation, a_message, tree_words, item_id}
 use Rattle.kmip_caller.specs.declared.command.Order.{Order}
 
@@ -17,11 +20,26 @@ abbrev pub grammar_line : List ℕ → List ℕ
 grammar_line text =
     codes "{\"error\":\"GrammarError\",\"text\":" ++ (text_in_style text Json ++ codes "}\n")
 
--- why no typed call is made: the words are no call, and which of them is wrong is said; or a record
--- cannot hold them
-abbrev pub not_typed : Option Call → List (List ℕ) → List ℕ
-not_typed (Some call) words = codes "a record cannot hold these words"
-not_typed None words = words_refusal words
+-- why no call of the table is made: it is to be recorded, the Unique Batch Item ID in front is none, or
+-- its words are wrong
+abbrev pub IsWrongRow : Bool → List (List ℕ) → List ℕ → Type 0
+IsWrongRow true words text =
+    text ≡ codes "item-id= takes an even number of hex digits, at least two"
+IsWrongRow false words text = IsTableRefusal words text
+
+abbrev pub IsNoRow : Option (List ℕ) → Given → List ℕ → Type 0
+IsNoRow (Some file) given text = text ≡ codes "a record cannot hold these words"
+IsNoRow None given text = IsWrongRow (is_none (item_id given.value)) given.rest text
+
+-- why none is made of words that are no typed call: those of the table, and others
+abbrev pub IsUntyped : Bool → Order → List ℕ → Type 0
+IsUntyped true order text = IsNoRow order.file (with_id order.words) text
+IsUntyped false order text = text ≡ words_refusal order.words
+
+-- and of others than those with JSON: a record cannot hold a typed call, or they are none
+abbrev pub IsNotTyped : Option Call → Order → List ℕ → Type 0
+IsNotTyped (Some call) order text = text ≡ codes "a record cannot hold these words"
+IsNotTyped None order text = IsUntyped (is_of_table order.words) order text
 
 -- what is said of a payload or a message that is none: what it is, and why
 abbrev pub IsNotRead : List ℕ → List ℕ → Type 0
@@ -54,7 +72,7 @@ IsNoTree None words text = IsWrongTree words text
 
 abbrev pub IsWhyNotBy : Option TreeText → Order → List ℕ → Type 0
 IsWhyNotBy (Some words) order text = IsNoTree order.file words text
-IsWhyNotBy None order text = text ≡ not_typed (typed_call order.words) order.words
+IsWhyNotBy None order text = IsNotTyped (typed_call order.words) order text
 
 -- why nothing that the order asks for is made
 abbrev pub IsWhyNot : Order → List ℕ → Type 0

@@ -33,6 +33,8 @@ pub enum Command {
     Version,
     /// `--grammar`: prints the calls as JSON.
     Grammar,
+    /// `--operations`: prints the calls of the table, each with its words and what it asks for.
+    Operations,
     /// Makes a call.
     Make(Order),
 }
@@ -115,7 +117,7 @@ fn make_command(order: Option<Order>) -> Option<Command>
     }
 }
 
-/// The command of one word: `--help`, `--version`, `--grammar`, or else a call.
+/// The command of one word: `--help`, `--version`, `--grammar`, `--operations`, or else a call.
 fn one_word(
     alloc: Global,
     environment: Option<&str>,
@@ -130,6 +132,7 @@ fn one_word(
         "--help" => Ok(Some(Command::Help)),
         "--version" => Ok(Some(Command::Version)),
         "--grammar" => Ok(Some(Command::Grammar)),
+        "--operations" => Ok(Some(Command::Operations)),
         _ => Ok(make_command(order_of(alloc, environment, words)?)),
     }
 }

@@ -62,7 +62,7 @@ fn answer_to(
 {
     match asked {
         Asked::Typed(call) => typed_answer(alloc, settings, call, response),
-        Asked::Operation(call) => operation_answer(alloc, settings, call, response),
+        Asked::Operation(call, form) => { operation_answer(alloc, settings, call, response, *form) }
         Asked::Message(_) => message_answer(alloc, settings, response),
     }
 }

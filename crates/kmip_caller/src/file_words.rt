@@ -1,10 +1,14 @@
 //! Words of a call that name a file, whose contents are meant: `@FILE`.
 ghost use Rattle.std.specs.Prelude.{◌≡◌, ◌++◌, option_map, IfOk, OnOk};
 ghost use Rattle.kmip_caller.specs.FileWords.{is_of_json, has_json, place_of, place_in};
+ghost use Rattle.kmip_caller.specs.FileWords.{gives_bytes, gives_bytes_behind, takes_file};
+ghost use Rattle.kmip_caller.specs.TableWords.{with_id};
 ghost use Rattle.kmip_caller.specs.FileWords.{file_at, file_in, text_for, word_for, put_at};
 ghost use Rattle.kmip_caller.specs.FileWords.{with_contents};
 
 use crate::record::push_response;
+use crate::table_words::with_id;
+use kmip_operation_words::{operation_row, takes_bytes};
 use kmip_wire::{List, OutOfMemory, Text};
 use std::alloc::Global;
 use std::str;
@@ -52,6 +56,40 @@ fn place_in(words: &[Text]) -> Option<usize>
     }
 }
 
+/// Whether the word at this place gives bytes to a call of the table, whose name stands at place 0.
+fn gives_bytes(words: &[Text], place: usize) -> bool
+    ensures { result ≡ gives_bytes words.now place }
+{
+    let [name, ..] = words else {
+        return false;
+    };
+    match operation_row(name.as_str()) {
+        Some(row) => place > 0 && takes_bytes(row, place - 1),
+        None => false,
+    }
+}
+
+/// The same with `item-id=HEX` in front, or without.
+fn gives_bytes_behind(words: &[Text], place: usize) -> bool
+    ensures { result ≡ gives_bytes_behind (with_id words.now) place }
+{
+    let (hex, words) = with_id(words);
+    match hex {
+        Some(_) => place > 0 && gives_bytes(words, place - 1),
+        None => gives_bytes(words, place),
+    }
+}
+
+/// Whether the word at this place may name a file.
+fn takes_file(words: &[Text], place: usize) -> bool
+    ensures { result ≡ takes_file words.now place }
+{
+    match place_in(words) {
+        Some(at) => at == place,
+        None => gives_bytes_behind(words, place),
+    }
+}
+
 /// The file that the word at this place names.
 fn file_at<'a>(at: usize, words: &'a [Text]) -> Option<&'a str>
     ensures { option_map (λ file. file.now) result ≡ file_at at words.now }
@@ -68,14 +106,15 @@ fn file_at<'a>(at: usize, words: &'a [Text]) -> Option<&'a str>
     }
 }
 
-/// The file that is named in the place of the bytes or of the JSON of a call: what stands there
-/// after `@`.
-pub fn file_in<'a>(words: &'a [Text]) -> Option<&'a str>
-    ensures { option_map (λ file. file.now) result ≡ file_in words.now }
+/// The file that the word of a call at this place names, from 0 on, `item-id=` counted too: what
+/// stands there after `@`. `None` for a word that gives neither bytes nor JSON.
+pub fn file_in<'a>(words: &'a [Text], place: usize) -> Option<&'a str>
+    ensures { option_map (λ file. file.now) result ≡ file_in words.now place }
 {
-    match place_in(words) {
-        Some(at) => file_at(at, words),
-        None => None,
+    if takes_file(words, place) {
+        file_at(place, words)
+    } else {
+        None
     }
 }
 
@@ -141,23 +180,24 @@ fn push_all(alloc: Global, words: &[Text], to: &mut List<Text>) -> Result<(), Ou
     }
 }
 
-/// The words with the contents of a file in the place of the one that names it: as they are where
-/// it is JSON, and else in hex. `None` where they are to be JSON and are no UTF-8, or no word of
-/// the call may name a file.
+/// The words with the contents of a file at this place, that of the word that names it: as they are
+/// where they are JSON, and else in hex. `None` where they are to be JSON and are no UTF-8, or the
+/// word there may name no file.
 pub fn with_contents(
     alloc: Global,
     contents: &[u8],
+    place: usize,
     words: &[Text],
 ) -> Result<Option<List<Text>>, OutOfMemory>
-    ensures { IfOk result (λ found. found ≡ with_contents contents.now words.now) }
+    ensures { IfOk result (λ found. found ≡ with_contents contents.now place words.now) }
 {
-    let Some(at) = place_in(words) else {
+    if !takes_file(words, place) {
         return Ok(None);
-    };
+    }
     let Some(put) = word_for(alloc, has_json(words), contents)? else {
         return Ok(None);
     };
     let mut found = List::new(alloc);
-    push_with(alloc, at, put.as_str(), words, &mut found)?;
+    push_with(alloc, place, put.as_str(), words, &mut found)?;
     Ok(Some(found))
 }

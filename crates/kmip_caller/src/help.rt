@@ -1,4 +1,5 @@
-//! What `--help` prints, and what `--grammar` does: both from the table of calls.
+//! What `--help`, `--grammar` and `--operations` print, from the tables of calls.
+use kmip_operation_words::{operation_calls, push_operation_form};
 use kmip_shape::ShowItem;
 use kmip_wire::{List, OutOfMemory, Text};
 use kmip_words::{
@@ -14,11 +15,13 @@ Makes one call of a KMIP client over standard input and output.
     kmip_call --help
     kmip_call --version
     kmip_call --grammar
+    kmip_call --operations
 
 Standard output is the request's message, standard input one response, which is
 read to its end and no further, and standard error one line of JSON:
 {\"answer\":..} or {\"error\":\"ItemNotFound\",\"text\":\"..\"}, whose error is
-GrammarError where the words are no call. --grammar prints the calls as JSON.
+GrammarError where the words are no call. --grammar prints the calls as JSON;
+--operations prints more calls, as `encrypt ID DATA`.
 
 CALL is one of
 ";
@@ -41,13 +44,18 @@ const BACK: &str = "
 where none is given. item-id= is the Unique Batch Item ID that the request has,
 in hex: then an answer with another is lost, and one with none too, unless it is
 a failure that names no operation. PAYLOAD is the JSON of the request's payload,
-as {\"tag\":\"RequestPayload\",\"value\":[..]}; the answer is that of the response's
-payload. `message` sends a whole message, whose JSON MESSAGE is, as it stands;
-the answer is the whole response. Neither can be recorded.
+as {\"tag\":\"RequestPayload\",\"value\":[..]}, or its XML, which begins with <; the
+answer is the JSON of the response's payload. `message` sends a whole message,
+whose JSON or XML MESSAGE is, as it stands; the answer is the whole response.
 
-@FILE in the place of HEX, PAYLOAD or MESSAGE stands for what that file has, its
-bytes or its JSON, and @3 for what descriptor 3 has up to its end: the words of
-a program can be seen by other users of the machine.
+The calls that --operations prints are operations by words. Their answer is the
+response's payload as plain JSON, with a member for each tag of its items, as
+{\"unique_identifier\":\"8\",\"data\":\"00FF\"}; item-id= may stand before their name.
+Neither these calls nor `operation` and `message` can be recorded.
+
+@FILE in the place of HEX, DATA, MAC, SIGNATURE, PAYLOAD or MESSAGE stands for
+what that file has, its bytes or its JSON, and @3 for what descriptor 3 has up
+to its end: the words of a program can be seen by other users of the machine.
 
 user=U, password=P   the credential of the request; without password=P the
                      password is that of the environment, KMIP_PASSWORD
@@ -152,6 +160,18 @@ pub fn help_text(alloc: Global) -> Result<Text, OutOfMemory> {
         push_kind(alloc, label, *kind, &mut text)?;
     }
     text.push_str(BACK)?;
+    Ok(text)
+}
+
+/// What `--operations` prints: the calls of the table, each with its words and what it asks for.
+pub fn operations_text(alloc: Global) -> Result<Text, OutOfMemory> {
+    let mut text = Text::new(alloc);
+    for row in operation_calls() {
+        push_operation_form(row, &mut text)?;
+        text.push_str("\n    ")?;
+        text.push_str(row.help)?;
+        text.push_str("\n")?;
+    }
     Ok(text)
 }
 
@@ -264,9 +284,9 @@ fn push_row(alloc: Global, row: &CallRow, text: &mut Text) -> Result<(), OutOfMe
 fn push_texts(alloc: Global, texts: &List<Text>, text: &mut Text) -> Result<(), OutOfMemory> {
     text.push_str("[")?;
     let mut between = "";
-    for it in texts.as_slice() {
+    for item in texts.as_slice() {
         between = push_between(between, text)?;
-        it.show_json(alloc, text)?;
+        item.show_json(alloc, text)?;
     }
     text.push_str("]")
 }

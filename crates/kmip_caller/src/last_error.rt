@@ -20,7 +20,7 @@ impl LastError {
     }
 
     /// The error, in the system's words; `None` where there is none.
-    pub fn reason(&self, alloc: Global) -> Result<Option<Text>, OutOfMemory> {
+    pub(crate) fn reason(&self, alloc: Global) -> Result<Option<Text>, OutOfMemory> {
         let Some(number) = self.number.get() else {
             return Ok(None);
         };

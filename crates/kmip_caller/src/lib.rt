@@ -2,10 +2,11 @@
 //! words and its standard streams.
 //!
 //! The words after the program's name are read by [`command_of`]. Where they are a call, [`run`]
-//! writes its request to a sink, reads one response from a source, and writes the answer as a line of
-//! JSON; where they are none, [`refuse`] writes why. A word of a call may name a file: [`file_in`]
-//! returns its name, and [`with_contents`] the words with what the file has in its place. How a run
-//! ends is a [`Status`]. The words of all calls are printed by [`help_text`] and [`grammar_json`].
+//! writes its request to a sink, reads one response from a source, and writes the answer as a line
+//! of JSON; where they are none, [`refuse`] writes why. Words of a call may name files: [`file_in`]
+//! returns the name of one, and [`with_contents`] the words with what the file has in its place.
+//! How a run ends is a [`Status`]. The words of all calls are printed by [`help_text`],
+//! [`grammar_json`] and [`operations_text`].
 #![tactic(auto)]
 
 mod command;
@@ -18,12 +19,13 @@ mod record;
 mod refusal;
 mod requested;
 mod status;
+mod table_words;
 mod tree_words;
 mod wire;
 
 pub use command::{Command, Order, command_of};
 pub use file_words::{file_in, with_contents};
-pub use help::{grammar_json, help_text};
+pub use help::{grammar_json, help_text, operations_text};
 pub use last_error::{LastError, Watched};
 pub use program::run;
 pub use record::records_read_back;

@@ -112,12 +112,13 @@ fn report<F: Sink, K: Sink>(
 /// Makes a call, and returns how the program ends.
 ///
 /// The request goes to `wire`, the response comes from `source`, the answer goes to `errors` as a
-/// line of JSON, and the record to `kept`, where `record=FILE` asks for one. What `wire` and `source`
-/// last failed with is in `last`.
+/// line of JSON, and the record to `kept`, where `record=FILE` asks for one. What `wire` and
+/// `source` last failed with is in `last`.
 ///
 /// - `Ended`: the call was made, and its record and its answer were written.
 /// - `NoCall`: the words are not of the grammar, or a record cannot hold them; nothing was sent,
-///   read or recorded, and `errors` got a line of JSON that says why, or a part of it where it failed.
+///   read or recorded, and `errors` got a line of JSON that says why, or a part of it where it
+///   failed.
 /// - `NotWritten`: the record or the answer could not be written; the exchange was made, and the
 ///   answer was written where `errors` did not fail.
 /// - `OutOfMemory`: memory ran out, and the request may have been sent: close the connection.

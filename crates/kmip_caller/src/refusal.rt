@@ -3,17 +3,22 @@ ghost use Rattle.std.specs.Prelude.{◌≡◌, ◌++◌, ◌⊎◌, ℕ, List, c
 ghost use Rattle.kmip_words.specs.Streams.{WrotePart};
 ghost use Rattle.kmip_link.specs.State.{FaultCountRose};
 ghost use Rattle.kmip_words.specs.Calls.{typed_call};
-ghost use Rattle.kmip_caller.specs.Refusal.{grammar_line, not_typed};
+ghost use Rattle.kmip_caller.specs.Refusal.{grammar_line};
+ghost use Rattle.kmip_caller.specs.Refusal.{IsWrongRow, IsNoRow, IsUntyped, IsNotTyped};
 ghost use Rattle.kmip_caller.specs.Refusal.{IsNotRead, IsWrongOperation, IsWrongTree, IsNoTree};
 ghost use Rattle.kmip_caller.specs.Refusal.{IsWhyNot, IsRefusalWritten, IsRefusal};
-ghost use Rattle.kmip_caller.specs.TreeWords.{tree_text};
+ghost use Rattle.std.specs.Option.{is_none};
+ghost use Rattle.kmip_caller.specs.TableWords.{with_id, is_of_table};
+ghost use Rattle.kmip_caller.specs.TreeWords.{tree_text, item_id};
 ghost use Rattle.kmip_caller.specs.declared.command.Order.{Order as TheOrder};
 ghost use Rattle.kmip_words.specs.JsonLines.{IsGrammarLine};
 
 use crate::command::Order;
 use crate::status::Status;
+use crate::table_words::{is_of_table, with_id};
 use crate::tree_words::{TreeWords, item_id, tree_words};
 use kmip_link::{LinkError, Sink};
+use kmip_operation_words::why_no_call;
 use kmip_operations::{message_refusal, operation_named, payload_refusal, version_written};
 use kmip_shape::ShowItem;
 use kmip_wire::{OutOfMemory, Text};
@@ -38,13 +43,48 @@ const WRONG_ID: &str = "item-id= takes an even number of hex digits, at least tw
 /// What is said of words that a record cannot hold.
 const NOT_RECORDED: &str = "a record cannot hold these words";
 
-/// Why no typed call of these words is made: they are no call, or a record cannot hold them.
-fn not_typed(alloc: Global, words: &[Text]) -> Result<Text, OutOfMemory>
-    ensures { IfOk result (λ text. text ≡ not_typed (typed_call words.now) words.now) }
+/// Why no call of the table is made: the Unique Batch Item ID in front is none, or its words are
+/// wrong.
+fn wrong_row(alloc: Global, hex: Option<&str>, words: &[Text]) -> Result<Text, OutOfMemory>
+    ensures { IfOk result (λ text. IsWrongRow
+        (is_none (item_id (option_map (λ text. text.now) hex.entry))) words.now text) }
 {
-    match typed_call(alloc, words)? {
-        Some(_) => Text::of(alloc, NOT_RECORDED),
-        None => refusal_of(alloc, words),
+    if item_id(alloc, hex)?.is_none() {
+        return Ok(Text::of(alloc, WRONG_ID)?);
+    }
+    Ok(why_no_call(alloc, words)?)
+}
+
+/// Why no call of the table is made: it is to be recorded, or its words are wrong.
+fn no_row(alloc: Global, order: &Order) -> Result<Text, OutOfMemory>
+    ensures { IfOk result (λ text. IsNoRow order.now.file (with_id order.now.words) text) }
+{
+    let (hex, words) = with_id(order.words.as_slice());
+    match &order.file {
+        Some(_) => Ok(Text::of(alloc, NOT_RECORDED)?),
+        None => Ok(wrong_row(alloc, hex, words)?),
+    }
+}
+
+/// Why no call is made of words that are no typed call.
+fn untyped(alloc: Global, order: &Order) -> Result<Text, OutOfMemory>
+    ensures { IfOk result (λ text. IsUntyped (is_of_table order.now.words) order.now text) }
+{
+    let words = order.words.as_slice();
+    if is_of_table(words) {
+        Ok(no_row(alloc, order)?)
+    } else {
+        Ok(refusal_of(alloc, words)?)
+    }
+}
+
+/// Why no call without JSON is made: a record cannot hold a typed call, or the words are none.
+fn not_typed(alloc: Global, order: &Order) -> Result<Text, OutOfMemory>
+    ensures { IfOk result (λ text. IsNotTyped (typed_call order.now.words) order.now text) }
+{
+    match typed_call(alloc, order.words.as_slice())? {
+        Some(_) => Ok(Text::of(alloc, NOT_RECORDED)?),
+        None => Ok(untyped(alloc, order)?),
     }
 }
 
@@ -129,10 +169,9 @@ fn no_tree(alloc: Global, file: &Option<Text>, words: TreeWords<'_>) -> Result<T
 fn why_not(alloc: Global, order: &Order) -> Result<Text, OutOfMemory>
     ensures { IfOk result (λ text. IsWhyNot order.now text) }
 {
-    let words = order.words.as_slice();
-    match tree_words(words) {
+    match tree_words(order.words.as_slice()) {
         Some(words) => Ok(no_tree(alloc, &order.file, words)?),
-        None => Ok(not_typed(alloc, words)?),
+        None => Ok(not_typed(alloc, order)?),
     }
 }
 
@@ -170,7 +209,8 @@ pub fn refuse<K: Sink>(alloc: Global, text: &str, errors: &mut K) -> Status
 /// Writes why nothing that an order asks for is made, in the same way.
 pub fn refuse_words<K: Sink>(alloc: Global, order: &Order, errors: &mut K) -> Status
     ensures status { (result ≡ Status.NoCall) ⊎ (result ≡ Status.OutOfMemory) }
-    ensures written { IsRefusalWritten order.now (result ≡ Status.NoCall) (K.state errors.old) (K.state errors.new) }
+    ensures written { IsRefusalWritten order.now (result ≡ Status.NoCall)
+        (K.state errors.old) (K.state errors.new) }
 {
     match why_not(alloc, order) {
         Ok(text) => refuse(alloc, text.as_str(), errors),

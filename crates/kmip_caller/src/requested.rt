@@ -5,16 +5,19 @@ ghost use Rattle.kmip_caller.specs.TreeWords.{an_operation, a_message, tree_text
 ghost use Rattle.kmip_caller.specs.TreeWords.{item_id};
 ghost use Rattle.kmip_words.specs.Calls.{typed_call};
 ghost use Rattle.kmip_words.specs.Exchange.{request_asked};
-ghost use Rattle.kmip_caller.specs.Asked.{is_allowed, call_for, AsksForNone, Requests};
+ghost use Rattle.kmip_caller.specs.TableWords.{with_id};
+ghost use Rattle.kmip_caller.specs.Asked.{is_allowed, AsksForNone, Requests};
 ghost use Rattle.kmip_caller.specs.declared.requested.Asked.TheVariants.{Typed};
 
 use crate::command::Order;
 use crate::record::{is_recordable, words_for};
+use crate::table_words::with_id;
 use crate::tree_words::{TreeWords, item_id, tree_words};
+use kmip_operation_words::table_call;
 use kmip_operations::{
-    OperationCall, message_of, message_request, operation_call, operation_request,
+    OperationCall, PayloadForm, message_of, message_request, operation_call, operation_request,
 };
-use kmip_wire::{Blob, OutOfMemory, Tree};
+use kmip_wire::{Blob, OutOfMemory, Text, Tree};
 use kmip_words::{Call, Settings, request_of, typed_call};
 use std::alloc::Global;
 
@@ -23,8 +26,8 @@ use std::alloc::Global;
 pub enum Asked {
     /// A call of kmip_words.
     Typed(Call),
-    /// A call of any operation.
-    Operation(OperationCall),
+    /// A call of any operation, and how its answer's payload is written.
+    Operation(OperationCall, PayloadForm),
     /// A whole message.
     Message(Tree),
 }
@@ -65,15 +68,13 @@ fn with_request(alloc: Global, settings: &Settings, call: Call) -> Result<Reques
     })
 }
 
-/// The request of a typed call; `None` where the words are none that may be made.
-fn typed_request(alloc: Global, order: &Order) -> Result<Option<Requested>, OutOfMemory>
-    requires { tree_words order.now.words ≡ None }
-    ensures { IfOk result (λ found. MatchOption found (call_for order.now ≡ None)
+/// The request of a typed call; `None` where it may not be made.
+fn typed_request(alloc: Global, order: &Order, call: Call) -> Result<Option<Requested>, OutOfMemory>
+    requires tree { tree_words order.now.words ≡ None }
+    requires typed { typed_call order.now.words ≡ Some call }
+    ensures { IfOk result (λ found. MatchOption found (AsksForNone order.now)
         (λ it. Requests order.now it.asked it.request)) }
 {
-    let Some(call) = typed_call(alloc, order.words.as_slice())? else {
-        return Ok(None);
-    };
     if !is_allowed(alloc, order, &call)? {
         return Ok(None);
     }
@@ -113,7 +114,7 @@ fn operation_with(
     };
     let request = operation_request(alloc, &order.settings, &call)?;
     Ok(Some(Requested {
-        asked: Asked::Operation(call),
+        asked: Asked::Operation(call, PayloadForm::Tree),
         request,
     }))
 }
@@ -136,6 +137,65 @@ fn operation_request_of(
     match item_id(alloc, hex)? {
         Some(id) => operation_with(alloc, order, name, version, hex, &id, payload),
         None => Ok(None),
+    }
+}
+
+/// The request of a call of the table with this Unique Batch Item ID, where it has one, which the
+/// word `hex` gives; `None` where the words ask for none.
+fn table_request_with(
+    alloc: Global,
+    order: &Order,
+    hex: Option<&str>,
+    id: &Option<Blob>,
+    words: &[Text],
+) -> Result<Option<Requested>, OutOfMemory>
+    requires file { is_some order.now.file ≡ false }
+    requires tree { tree_words order.now.words ≡ None }
+    requires typed { typed_call order.now.words ≡ None }
+    requires hex { option_map (λ text. text.now) hex ≡ (with_id order.now.words).value }
+    requires words { words.now ≡ (with_id order.now.words).rest }
+    requires id { item_id (option_map (λ text. text.now) hex) ≡ Some id.now }
+    ensures { IfOk result (λ found. MatchOption found (AsksForNone order.now)
+        (λ it. Requests order.now it.asked it.request)) }
+{
+    let Some(call) = table_call(alloc, words, bytes_in(id))? else {
+        return Ok(None);
+    };
+    let request = operation_request(alloc, &order.settings, &call)?;
+    Ok(Some(Requested {
+        asked: Asked::Operation(call, PayloadForm::Plain),
+        request,
+    }))
+}
+
+/// The request of a call of the table; `None` where the words ask for none, or the call is to be
+/// recorded.
+fn table_request(alloc: Global, order: &Order) -> Result<Option<Requested>, OutOfMemory>
+    requires tree { tree_words order.now.words ≡ None }
+    requires typed { typed_call order.now.words ≡ None }
+    ensures { IfOk result (λ found. MatchOption found (AsksForNone order.now)
+        (λ it. Requests order.now it.asked it.request)) }
+{
+    if let Some(_file) = &order.file {
+        return Ok(None);
+    }
+    let (hex, words) = with_id(order.words.as_slice());
+    match item_id(alloc, hex)? {
+        Some(id) => table_request_with(alloc, order, hex, &id, words),
+        None => Ok(None),
+    }
+}
+
+/// The request of a typed call or of one of the table; `None` where the words ask for none that may
+/// be made.
+fn worded_request(alloc: Global, order: &Order) -> Result<Option<Requested>, OutOfMemory>
+    requires { tree_words order.now.words ≡ None }
+    ensures { IfOk result (λ found. MatchOption found (AsksForNone order.now)
+        (λ it. Requests order.now it.asked it.request)) }
+{
+    match typed_call(alloc, order.words.as_slice())? {
+        Some(call) => typed_request(alloc, order, call),
+        None => table_request(alloc, order),
     }
 }
 
@@ -192,6 +252,6 @@ pub fn request_for(alloc: Global, order: &Order) -> Result<Option<Requested>, Ou
 {
     match tree_words(order.words.as_slice()) {
         Some(words) => tree_request(alloc, order, words),
-        None => typed_request(alloc, order),
+        None => worded_request(alloc, order),
     }
 }

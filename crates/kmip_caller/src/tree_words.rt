@@ -78,8 +78,8 @@ fn given_or<'a>(
     }
 }
 
-/// The words of an operation, by its name and the words after it: options in any order, each at most
-/// once, and its payload.
+/// The words of an operation, by its name and the words after it: options in any order, each at
+/// most once, and its payload.
 fn optioned_words<'a>(name: &'a str, words: &'a [Text]) -> Option<TreeWords<'a>>
     ensures { option_map tree_text result ≡ optioned_words name.now words.now }
 {

@@ -2,6 +2,7 @@
 use crate::answers::{DEEPEST, TOO_DEEP, answers, identified_operations, messages, operations};
 use crate::errors::{errors, passwords_and_failures, records, words_out_of_grammar};
 use crate::support::{Row, are_made, is_made_of};
+use crate::table::{table_answers, table_refusals};
 use kmip_wire::Text;
 use std::alloc::Global;
 use std::process::Abort;
@@ -22,6 +23,16 @@ fn a_call_of_any_operation_sends_its_payload_and_writes_the_answers(
 #[test]
 fn an_answer_has_the_id_of_its_operation(rt: HostRuntime) -> Result<(), Fail> {
     are_made(&rt, rt.alloc(), identified_operations())
+}
+
+#[test]
+fn a_call_of_the_table_is_answered_in_plain_json(rt: HostRuntime) -> Result<(), Fail> {
+    are_made(&rt, rt.alloc(), table_answers())
+}
+
+#[test]
+fn words_that_are_no_call_of_the_table_send_nothing(rt: HostRuntime) -> Result<(), Fail> {
+    are_made(&rt, rt.alloc(), table_refusals())
 }
 
 #[test]

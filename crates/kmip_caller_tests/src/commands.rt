@@ -1,6 +1,6 @@
 //! Which command words are, and what the help and the grammar print.
 use crate::support::commanded;
-use kmip_caller::{Command, grammar_json, help_text};
+use kmip_caller::{Command, grammar_json, help_text, operations_text};
 use kmip_wire::Text;
 use kmip_words::{calls, push_form};
 use std::alloc::Global;
@@ -13,6 +13,7 @@ fn asked(alloc: Global, words: &[&str]) -> Result<&'static str, Fail> {
         Some(Command::Help) => "help",
         Some(Command::Version) => "version",
         Some(Command::Grammar) => "grammar",
+        Some(Command::Operations) => "operations",
         Some(Command::Make(_)) => "a call",
         None => "nothing",
     };
@@ -25,10 +26,11 @@ fn help_and_version_are_commands_only_where_they_stand_alone(rt: HostRuntime) ->
     let help = asked(rt.alloc(), &["--help"])?;
     let version = asked(rt.alloc(), &["--version"])?;
     let grammar = asked(rt.alloc(), &["--grammar"])?;
+    let operations = asked(rt.alloc(), &["--operations"])?;
     let more = asked(rt.alloc(), &["--version", "query"])?;
     assert_eq!(rt;
-        [help, version, grammar, more],
-        ["help", "version", "grammar", "a call"]
+        [help, version, grammar, operations, more],
+        ["help", "version", "grammar", "operations", "a call"]
     );
     Ok(())
 }
@@ -49,5 +51,16 @@ fn the_help_and_the_grammar_have_all_calls(rt: HostRuntime) -> Result<(), Fail> 
     assert!(rt;
         grammar.as_str().contains("{\"name\":\"hash=\",\"kind\":\"Hash\",\"is_needed\":false}")
     );
+    Ok(())
+}
+
+#[test]
+fn the_operations_have_their_words_and_what_they_ask_for(rt: HostRuntime) -> Result<(), Fail> {
+    let text = operations_text(rt.alloc())?;
+    let lines = "hash DATA hash=NAME\n    the hash of the data\n";
+    assert!(rt; text.as_str().contains(lines));
+    let lines = "validate ID [ID..]\n    whether these certificates are a valid chain\n";
+    assert!(rt; text.as_str().contains(lines));
+    assert_eq!(rt; text.as_str().lines().count(), 48);
     Ok(())
 }

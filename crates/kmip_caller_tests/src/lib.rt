@@ -16,3 +16,5 @@ mod errors;
 mod files;
 #[cfg(test)]
 mod support;
+#[cfg(test)]
+mod table;

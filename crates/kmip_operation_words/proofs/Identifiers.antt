@@ -20,7 +20,7 @@ use Rattle.kmip_operation_words.specs.Rows.{Field, Form, bare, as_parameter, as_
 use Rattle.kmip_operation_words.specs.Values.{value_of, not_empty, truth_of}
 use Rattle.kmip_operation_words.specs.Items.{formed, value_tag, word_items, alone, both, all_items, Words, option_items, place_items, field_items, around, grouped, part_items}
 use Rattle.kmip_operation_words.specs.Table.{calls}
-use Rattle.kmip_operation_words.specs.Laws.{is_empty_identifier, has_empty_identifier, have_empty_identifier}
+use Rattle.kmip_operations.specs.Calls.{is_empty_identifier, has_empty_identifier, have_empty_identifier}
 use Rattle.kmip_operation_words.specs.Calls.{payload, are_of, words_of, asked_by, row_in, operation_asked}
 
 -- a value that is no empty identifier, and items of which none is one, where there are any

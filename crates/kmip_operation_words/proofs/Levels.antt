@@ -13,7 +13,7 @@ use Rattle.kmip_tags.specs.Tags.{REQUEST_PAYLOAD}
 use Rattle.kmip_enums.specs.declared.operation.Operation.{Operation}
 use Rattle.kmip_operation_words.specs.Rows.{Row}
 use Rattle.kmip_operation_words.specs.Table.{calls}
-use Rattle.kmip_operation_words.specs.Laws.{is_structure}
+use Rattle.kmip_operations.specs.Calls.{is_structure}
 use Rattle.kmip_operation_words.specs.Calls.{payload, are_of, words_of, asked_by, row_in, operation_asked}
 
 -- items of at most so many levels, where there are any

@@ -5,6 +5,8 @@ use Rattle.std.specs.Option.{option_map, option_and_then}
 use Rattle.kmip_tags.specs.Tags.{REQUEST_PAYLOAD}
 use Rattle.kmip_enums.specs.declared.operation.Operation.{Operation}
 use Rattle.kmip_wire.specs.Tree.{Tree, structure, trees_of}
+use Rattle.kmip_client.specs.Operation.{TreeRequest}
+use Rattle.kmip_client.specs.declared.operation.Version.TheVariants.{V1_2}
 use Rattle.kmip_request_words.specs.Options.{are_options}
 use Rattle.kmip_operation_words.specs.declared.rows.Rest.{Rest}
 use Rattle.kmip_operation_words.specs.declared.rows.Rest.TheVariants as rests
@@ -72,3 +74,16 @@ abbrev pub operation_asked : List (List ℕ) → Option (Operation × Tree)
 operation_asked [] = None
 operation_asked (name ∷ words) =
     option_and_then (λ row. asked_by row words) (row_in calls name)
+
+-- the request of an operation that the words of a call ask for, with this Unique Batch Item ID, where
+-- there is one (KMIP 1.0, 6.4)
+abbrev pub request_with : Option (List ℕ) → Operation × Tree → TreeRequest
+request_with id asked = record {
+  operation = asked.0;
+  version = V1_2;
+  id = id;
+  payload = asked.1;
+}
+
+abbrev pub table_request : List (List ℕ) → Option (List ℕ) → Option TreeRequest
+table_request words id = option_map (request_with id) (operation_asked words)

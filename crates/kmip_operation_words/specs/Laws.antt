@@ -1,7 +1,5 @@
 -- What the laws say.
-use Rattle.std.specs.Prelude.{ℕ, ◌==◌, Bool, true, false, List, [], ◌∷◌, length, ◌&&◌, ◌||◌, if◌then◌else◌, bytes_eq}
-use Rattle.kmip_tags.specs.Tags.{UNIQUE_IDENTIFIER}
-use Rattle.kmip_wire.specs.Tree.{Tree, Trees, Scalar, scalar, structure, none, more, text_string}
+use Rattle.std.specs.Prelude.{ℕ, Bool, true, false, List, [], ◌∷◌, ◌&&◌, if◌then◌else◌, bytes_eq}
 
 -- whether a name is none of these
 abbrev pub is_none_of : List (List ℕ) → List ℕ → Bool
@@ -17,24 +15,3 @@ have_no_twice (first ∷ rest) = is_none_of rest first && have_no_twice rest
 abbrev pub share_none : List (List ℕ) → List (List ℕ) → Bool
 share_none [] others = true
 share_none (first ∷ rest) others = is_none_of others first && share_none rest others
-
--- whether an item is a structure with this tag
-abbrev pub is_structure : ℕ → Tree → Bool
-is_structure wanted (structure tag items) = tag == wanted
-is_structure wanted (scalar tag value) = false
-
--- whether an item is an empty Unique Identifier, which a server may take for that of another object
-abbrev pub is_empty_identifier : ℕ → Scalar → Bool
-is_empty_identifier tag (text_string text) = tag == UNIQUE_IDENTIFIER && length text == 0
-is_empty_identifier tag value = false
-
--- whether an item has one in it, at whatever depth
-abbrev mutual
-  pub has_empty_identifier : Tree → Bool
-  has_empty_identifier (scalar tag value) = is_empty_identifier tag value
-  has_empty_identifier (structure tag items) = have_empty_identifier items
-
-  pub have_empty_identifier : Trees → Bool
-  have_empty_identifier none = false
-  have_empty_identifier (more item items) =
-      has_empty_identifier item || have_empty_identifier items

@@ -5,3 +5,6 @@ pub mod Values
 pub mod Items
 pub mod Calls
 pub mod Laws
+pub mod Bytes
+pub mod Forms
+pub mod Refusals

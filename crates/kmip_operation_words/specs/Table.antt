@@ -14,45 +14,46 @@ own fields = part None fields
 abbrev pub within : ℕ → List Field → Part
 within tag fields = part (Some tag) fields
 
+-- the object alone
+abbrev pub object : Part
+object = own (id ∷ [])
+
+-- how the object is used: KMIP 1.2, 3.6
+abbrev pub used : Part
+used = within tags.CRYPTOGRAPHIC_PARAMETERS parameters
+
+-- the data, and where the cipher starts
+abbrev pub data_and_iv : Part
+data_and_iv = own (object_data ∷ iv ∷ [])
+
+-- the name of a new object
+abbrev pub named : Part
+named = within tags.TEMPLATE_ATTRIBUTE (name_given ∷ [])
+
 -- KMIP 1.2, 4.29
 abbrev pub encrypt_row : Row
 encrypt_row = row (codes "encrypt") operations.Encrypt 2 Options
-    (own (id ∷ [])
-    ∷ within tags.CRYPTOGRAPHIC_PARAMETERS parameters
-    ∷ own (object_data ∷ iv ∷ [])
-    ∷ [])
+    (object ∷ used ∷ data_and_iv ∷ [])
 
 -- KMIP 1.2, 4.30
 abbrev pub decrypt_row : Row
 decrypt_row = row (codes "decrypt") operations.Decrypt 2 Options
-    (own (id ∷ [])
-    ∷ within tags.CRYPTOGRAPHIC_PARAMETERS parameters
-    ∷ own (object_data ∷ iv ∷ [])
-    ∷ [])
+    (object ∷ used ∷ data_and_iv ∷ [])
 
 -- KMIP 1.2, 4.33
 abbrev pub mac_row : Row
 mac_row = row (codes "mac") operations.MAC 2 Options
-    (own (id ∷ [])
-    ∷ within tags.CRYPTOGRAPHIC_PARAMETERS parameters
-    ∷ own (object_data ∷ [])
-    ∷ [])
+    (object ∷ used ∷ own (object_data ∷ []) ∷ [])
 
 -- KMIP 1.2, 4.34
 abbrev pub mac_verify_row : Row
 mac_verify_row = row (codes "mac-verify") operations.MACVerify 3 Options
-    (own (id ∷ [])
-    ∷ within tags.CRYPTOGRAPHIC_PARAMETERS parameters
-    ∷ own (object_data ∷ mac ∷ [])
-    ∷ [])
+    (object ∷ used ∷ own (object_data ∷ mac ∷ []) ∷ [])
 
 -- KMIP 1.2, 4.32
 abbrev pub verify_row : Row
 verify_row = row (codes "verify") operations.SignatureVerify 3 Options
-    (own (id ∷ [])
-    ∷ within tags.CRYPTOGRAPHIC_PARAMETERS parameters
-    ∷ own (object_data ∷ signature ∷ [])
-    ∷ [])
+    (object ∷ used ∷ own (object_data ∷ signature ∷ []) ∷ [])
 
 -- KMIP 1.2, 4.37
 abbrev pub hash_row : Row
@@ -72,28 +73,22 @@ derive_key_row = row (codes "derive-key") operations.DeriveKey 2 Options
 -- KMIP 1.0, 4.4
 abbrev pub rekey_row : Row
 rekey_row = row (codes "rekey") operations.Rekey 1 Options
-    (own (id ∷ offset ∷ [])
-    ∷ [])
+    (own (id ∷ offset ∷ []) ∷ [])
 
 -- KMIP 1.1, 4.5
 abbrev pub rekey_pair_row : Row
 rekey_pair_row = row (codes "rekey-pair") operations.RekeyKeyPair 1 Options
-    (own (private_id ∷ offset ∷ [])
-    ∷ [])
+    (own (private_id ∷ offset ∷ []) ∷ [])
 
 -- KMIP 1.0, 4.6
 abbrev pub certify_row : Row
 certify_row = row (codes "certify") operations.Certify 1 Options
-    (own (id ∷ request_type ∷ request ∷ [])
-    ∷ within tags.TEMPLATE_ATTRIBUTE (name_given ∷ [])
-    ∷ [])
+    (own (id ∷ request_type ∷ request ∷ []) ∷ named ∷ [])
 
 -- KMIP 1.0, 4.7
 abbrev pub recertify_row : Row
 recertify_row = row (codes "recertify") operations.Recertify 1 Options
-    (own (id ∷ request_type ∷ request ∷ offset ∷ [])
-    ∷ within tags.TEMPLATE_ATTRIBUTE (name_given ∷ [])
-    ∷ [])
+    (own (id ∷ request_type ∷ request ∷ offset ∷ []) ∷ named ∷ [])
 
 -- KMIP 1.0, 4.2
 abbrev pub create_ec_row : Row
@@ -121,62 +116,52 @@ create_key_row = row (codes "create-key") operations.Create 3 Options
 -- KMIP 1.0, 4.9
 abbrev pub check_row : Row
 check_row = row (codes "check") operations.Check 1 Options
-    (own (id ∷ count_wanted ∷ usage_wanted ∷ lease_wanted ∷ [])
-    ∷ [])
+    (own (id ∷ count_wanted ∷ usage_wanted ∷ lease_wanted ∷ []) ∷ [])
 
 -- KMIP 1.0, 4.12
 abbrev pub attribute_list_row : Row
 attribute_list_row = row (codes "attribute-list") operations.GetAttributeList 1 Options
-    (own (id ∷ [])
-    ∷ [])
+    (object ∷ [])
 
 -- KMIP 1.0, 4.16
 abbrev pub lease_row : Row
 lease_row = row (codes "lease") operations.ObtainLease 1 Options
-    (own (id ∷ [])
-    ∷ [])
+    (object ∷ [])
 
 -- KMIP 1.0, 4.17
 abbrev pub usage_allocation_row : Row
 usage_allocation_row = row (codes "usage-allocation") operations.GetUsageAllocation 2 Options
-    (own (id ∷ count ∷ [])
-    ∷ [])
+    (own (id ∷ count ∷ []) ∷ [])
 
 -- KMIP 1.0, 4.21
 abbrev pub archive_row : Row
 archive_row = row (codes "archive") operations.Archive 1 Options
-    (own (id ∷ [])
-    ∷ [])
+    (object ∷ [])
 
 -- KMIP 1.0, 4.22
 abbrev pub recover_row : Row
 recover_row = row (codes "recover") operations.Recover 1 Options
-    (own (id ∷ [])
-    ∷ [])
+    (object ∷ [])
 
 -- KMIP 1.0, 4.23
 abbrev pub validate_row : Row
 validate_row = row (codes "validate") operations.Validate 1 Words
-    (own (id ∷ ids ∷ [])
-    ∷ [])
+    (own (id ∷ ids ∷ []) ∷ [])
 
 -- KMIP 1.0, 4.25
 abbrev pub cancel_row : Row
 cancel_row = row (codes "cancel") operations.Cancel 1 Options
-    (own (correlation ∷ [])
-    ∷ [])
+    (own (correlation ∷ []) ∷ [])
 
 -- KMIP 1.0, 4.26
 abbrev pub poll_row : Row
 poll_row = row (codes "poll") operations.Poll 1 Options
-    (own (correlation ∷ [])
-    ∷ [])
+    (own (correlation ∷ []) ∷ [])
 
 -- KMIP 1.2, 4.36
 abbrev pub rng_seed_row : Row
 rng_seed_row = row (codes "rng-seed") operations.RNGSeed 1 Options
-    (own (seed ∷ [])
-    ∷ [])
+    (own (seed ∷ []) ∷ [])
 
 -- the calls
 abbrev pub calls : List Row

@@ -5,12 +5,8 @@ ghost use Rattle.kmip_wire.specs.Bytes.{levels};
 ghost use Rattle.kmip_enums.specs.declared.operation.Operation.{Operation};
 ghost use Rattle.kmip_request_words.specs.Grammar as typed;
 ghost use Rattle.kmip_operation_words.specs.Calls.{operation_asked};
-ghost use Rattle.kmip_operation_words.specs.Laws.{
-  have_no_twice,
-  share_none,
-  is_structure,
-  has_empty_identifier,
-};
+ghost use Rattle.kmip_operations.specs.Calls.{is_structure, has_empty_identifier};
+ghost use Rattle.kmip_operation_words.specs.Laws.{have_no_twice, share_none};
 ghost use Rattle.kmip_operation_words.specs.Table.{calls};
 ghost use Rattle.kmip_tags.specs.Tags.{REQUEST_PAYLOAD};
 

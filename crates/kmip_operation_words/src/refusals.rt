@@ -1,18 +1,22 @@
-//! Why words are no call of the table, and the form of a call.
+//! Why words are no call of the table.
 //!
 //! No word is shown that a user wrote, since it may be a secret.
-ghost use Rattle.std.specs.Prelude.{◌≡◌, IfOk, MatchOption, None, IsSome};
+ghost use Rattle.std.specs.Prelude.{◌≡◌, Some, None, IfOk, MatchOption, IsSome};
 ghost use Rattle.kmip_operation_words.specs.Calls.{operation_asked};
+ghost use Rattle.kmip_operation_words.specs.Refusals.{IsRefusal, IsWrong, with_form};
+ghost use Rattle.kmip_operation_words.specs.Rows.{row_view};
 
 use crate::calls::{operation_row, operation_words};
+use crate::forms::push_operation_form;
 use crate::items::push_field;
-use crate::rows::{FieldRow, Kind, OperationRow, PartRow, Place};
+use crate::rows::{FieldRow, Kind, OperationRow, PartRow};
 use kmip_encodings::enumeration_name;
 use kmip_wire::{OutOfMemory, Tag, Text, Tree};
 use std::alloc::Global;
 
-/// No enumeration has so many names.
-const NAMES: u32 = 128;
+/// Below this are all numbers that KMIP 1.2 names in an enumeration, masks aside: the greatest is
+/// 0x10B, of Link Type.
+const NUMBERS: u32 = 0x200;
 
 /// The first of the fields whose word is missing, or is none of its kind.
 fn wrong_among<'a>(
@@ -47,14 +51,15 @@ fn wrong_field<'a>(
 
 /// Adds the names of the enumeration that stands under a tag.
 fn push_names(tag: Tag, out: &mut Text) -> Result<(), OutOfMemory> {
-    for number in 1..NAMES {
-        let Some(name) = enumeration_name(tag, number) else {
-            return Ok(());
-        };
-        if number > 1 {
-            out.push_str(", ")?;
+    let mut is_first = true;
+    for number in 1..NUMBERS {
+        if let Some(name) = enumeration_name(tag, number) {
+            if !is_first {
+                out.push_str(", ")?;
+            }
+            out.push_str(name)?;
+            is_first = false;
         }
-        out.push_str(name)?;
     }
     Ok(())
 }
@@ -80,129 +85,66 @@ fn push_kind(field: &FieldRow, out: &mut Text) -> Result<(), OutOfMemory> {
     }
 }
 
-/// What the value of an option is called in the form of a call.
-fn kind_word(kind: Kind) -> &'static str {
-    match kind {
-        Kind::Identifier => "ID",
-        Kind::Text => "TEXT",
-        Kind::Hex => "HEX",
-        Kind::Int | Kind::Count => "N",
-        Kind::Date | Kind::Seconds => "SECONDS",
-        Kind::Truth => "true|false",
-        Kind::Name => "NAME",
-        Kind::Uses => "USES",
-    }
-}
-
-/// Adds a field's word to the form of a call, where it is no option.
-fn push_word_form(field: &FieldRow, out: &mut Text) -> Result<(), OutOfMemory> {
-    match field.place {
-        Place::Word(_) => {
-            out.push_str(" ")?;
-            out.push_str(field.name)
-        }
-        Place::Words => {
-            out.push_str(" [")?;
-            out.push_str(field.name)?;
-            out.push_str("..]")
-        }
-        _ => Ok(()),
-    }
-}
-
-/// Adds a field's option to the form of a call, in brackets where it may be left out.
-fn push_option_form(field: &FieldRow, out: &mut Text) -> Result<(), OutOfMemory> {
-    let (before, behind) = match field.place {
-        Place::Needed => (" ", ""),
-        Place::Option | Place::Usual(_) => (" [", "]"),
-        _ => return Ok(()),
-    };
-    out.push_str(before)?;
-    out.push_str(field.name)?;
-    out.push_str(kind_word(field.kind))?;
-    out.push_str(behind)
-}
-
-/// Adds the fields that are words, or those that are options.
-fn push_fields_form(
-    fields: &[FieldRow],
-    are_options: bool,
-    out: &mut Text,
-) -> Result<(), OutOfMemory> {
-    for field in fields {
-        if are_options {
-            push_option_form(field, out)?;
-        } else {
-            push_word_form(field, out)?;
-        }
-    }
-    Ok(())
-}
-
-/// The same of parts.
-fn push_parts_form(
-    parts: &[PartRow],
-    are_options: bool,
-    out: &mut Text,
-) -> Result<(), OutOfMemory> {
-    for part in parts {
-        push_fields_form(part.fields, are_options, out)?;
-    }
-    Ok(())
-}
-
-/// Adds the form of a call, as `hash DATA hash=NAME`: its words, then its options, in brackets where
-/// they may be left out.
-pub fn push_operation_form(row: &OperationRow, out: &mut Text) -> Result<(), OutOfMemory> {
-    out.push_str(row.name)?;
-    push_parts_form(row.parts, false, out)?;
-    push_parts_form(row.parts, true, out)
-}
-
-/// Adds what is wrong with the words of a row.
-fn push_wrong(
-    alloc: Global,
-    row: &OperationRow,
-    words: &[Text],
-    out: &mut Text,
-) -> Result<(), OutOfMemory> {
+/// What is wrong with the words of a row.
+fn what_is_wrong(alloc: Global, row: &OperationRow, words: &[Text]) -> Result<Text, OutOfMemory> {
     let behind: &[Text] = if words.len() < row.words {
         &[]
     } else {
         &words[row.words..]
     };
-    match wrong_field(alloc, row.parts, words, behind)? {
-        Some(field) => {
-            out.push_str(field.name)?;
-            out.push_str(" has to be ")?;
-            push_kind(field, out)
-        }
-        None => out.push_str("a word is no option of it, or an option is given twice"),
-    }
+    let Some(field) = wrong_field(alloc, row.parts, words, behind)? else {
+        return Text::of(
+            alloc,
+            "a word is no option of it, or an option is given twice",
+        );
+    };
+    let mut wrong = Text::of(alloc, field.name)?;
+    wrong.push_str(" has to be ")?;
+    push_kind(field, &mut wrong)?;
+    Ok(wrong)
 }
 
-/// Why the words are no call.
-fn why_no_call(alloc: Global, words: &[Text]) -> Result<Text, OutOfMemory> {
+/// The name of a call, what is wrong with its words, and its form.
+#[tactic(auto, using(std::proofs::lemmas::List::append_assoc))]
+fn with_form(alloc: Global, row: &OperationRow, wrong: &str) -> Result<Text, OutOfMemory>
+    ensures { IfOk result (λ text. text ≡ with_form (row_view row.now) wrong.now) }
+{
+    let mut text = Text::of(alloc, row.name)?;
+    text.push_str(": ")?;
+    text.push_str(wrong)?;
+    text.push_str("; its form is: ")?;
+    push_operation_form(row, &mut text)?;
+    Ok(text)
+}
+
+/// Why the words of a row are no call.
+fn why_none_of(alloc: Global, row: &OperationRow, words: &[Text]) -> Result<Text, OutOfMemory>
+    ensures { IfOk result (λ why. IsWrong (Some (row_view row.now)) why) }
+{
+    let wrong = what_is_wrong(alloc, row, words)?;
+    Ok(with_form(alloc, row, wrong.as_str())?)
+}
+
+/// Why words are no call of the table, of words that are none: a sentence that names what is wrong
+/// and what may stand there. It shows no word that was given.
+pub fn why_no_call(alloc: Global, words: &[Text]) -> Result<Text, OutOfMemory>
+    ensures { IfOk result (λ why. IsRefusal words.now why) }
+{
     let [name, words @ ..] = words else {
         return Text::of(alloc, "there are no words");
     };
-    let Some(row) = operation_row(name.as_str()) else {
-        return Text::of(alloc, "the first word is the name of no call");
-    };
-    let mut why = Text::of(alloc, row.name)?;
-    why.push_str(": ")?;
-    push_wrong(alloc, row, words, &mut why)?;
-    why.push_str("; its form is: ")?;
-    push_operation_form(row, &mut why)?;
-    Ok(why)
+    match operation_row(name.as_str()) {
+        Some(row) => why_none_of(alloc, row, words),
+        None => Text::of(alloc, "the first word is the name of no call"),
+    }
 }
 
-/// Why words are no call of the table, as a sentence that names what is wrong and what may stand
-/// there; `None` exactly where `operation_words` makes a call of them. It shows no word that was
-/// given.
+/// `why_no_call` of words that are no call of the table; `None` exactly where `operation_words`
+/// makes a call of them.
 pub fn operation_refusal(alloc: Global, words: &[Text]) -> Result<Option<Text>, OutOfMemory>
-    ensures { IfOk result (λ why. MatchOption why (IsSome (operation_asked words.now))
+    ensures none { IfOk result (λ why. MatchOption why (IsSome (operation_asked words.now))
         (λ _. operation_asked words.now ≡ None)) }
+    ensures text { IfOk result (λ why. MatchOption why (Unit {0}) (IsRefusal words.now)) }
 {
     match operation_words(alloc, words)? {
         Some(_asked) => Ok(None),

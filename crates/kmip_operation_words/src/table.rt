@@ -15,6 +15,30 @@ use crate::rows::{OperationRow, PartRow, Rest};
 use kmip_enums::Operation;
 use kmip_tags::tags;
 
+/// The object alone.
+const OBJECT: PartRow = PartRow {
+    group: None,
+    fields: &[ID],
+};
+
+/// How the object is used: KMIP 1.2, 3.6.
+const USED: PartRow = PartRow {
+    group: Some(tags::CRYPTOGRAPHIC_PARAMETERS),
+    fields: PARAMETERS,
+};
+
+/// The data, and where the cipher starts.
+const DATA_AND_IV: PartRow = PartRow {
+    group: None,
+    fields: &[OBJECT_DATA, IV],
+};
+
+/// The name of a new object.
+const NAMED: PartRow = PartRow {
+    group: Some(tags::TEMPLATE_ATTRIBUTE),
+    fields: &[NAME_GIVEN],
+};
+
 /// The calls.
 const CALLS: &[OperationRow] = &[
     OperationRow {
@@ -22,20 +46,7 @@ const CALLS: &[OperationRow] = &[
         operation: Operation::Encrypt,
         words: 2,
         rest: Rest::Options,
-        parts: &[
-            PartRow {
-                group: None,
-                fields: &[ID],
-            },
-            PartRow {
-                group: Some(tags::CRYPTOGRAPHIC_PARAMETERS),
-                fields: PARAMETERS,
-            },
-            PartRow {
-                group: None,
-                fields: &[OBJECT_DATA, IV],
-            },
-        ],
+        parts: &[OBJECT, USED, DATA_AND_IV],
         help: "the data, encrypted with a key",
     },
     OperationRow {
@@ -43,20 +54,7 @@ const CALLS: &[OperationRow] = &[
         operation: Operation::Decrypt,
         words: 2,
         rest: Rest::Options,
-        parts: &[
-            PartRow {
-                group: None,
-                fields: &[ID],
-            },
-            PartRow {
-                group: Some(tags::CRYPTOGRAPHIC_PARAMETERS),
-                fields: PARAMETERS,
-            },
-            PartRow {
-                group: None,
-                fields: &[OBJECT_DATA, IV],
-            },
-        ],
+        parts: &[OBJECT, USED, DATA_AND_IV],
         help: "the data, decrypted with a key",
     },
     OperationRow {
@@ -65,14 +63,8 @@ const CALLS: &[OperationRow] = &[
         words: 2,
         rest: Rest::Options,
         parts: &[
-            PartRow {
-                group: None,
-                fields: &[ID],
-            },
-            PartRow {
-                group: Some(tags::CRYPTOGRAPHIC_PARAMETERS),
-                fields: PARAMETERS,
-            },
+            OBJECT,
+            USED,
             PartRow {
                 group: None,
                 fields: &[OBJECT_DATA],
@@ -86,14 +78,8 @@ const CALLS: &[OperationRow] = &[
         words: 3,
         rest: Rest::Options,
         parts: &[
-            PartRow {
-                group: None,
-                fields: &[ID],
-            },
-            PartRow {
-                group: Some(tags::CRYPTOGRAPHIC_PARAMETERS),
-                fields: PARAMETERS,
-            },
+            OBJECT,
+            USED,
             PartRow {
                 group: None,
                 fields: &[OBJECT_DATA, MAC],
@@ -107,14 +93,8 @@ const CALLS: &[OperationRow] = &[
         words: 3,
         rest: Rest::Options,
         parts: &[
-            PartRow {
-                group: None,
-                fields: &[ID],
-            },
-            PartRow {
-                group: Some(tags::CRYPTOGRAPHIC_PARAMETERS),
-                fields: PARAMETERS,
-            },
+            OBJECT,
+            USED,
             PartRow {
                 group: None,
                 fields: &[OBJECT_DATA, SIGNATURE],
@@ -197,10 +177,7 @@ const CALLS: &[OperationRow] = &[
                 group: None,
                 fields: &[ID, REQUEST_TYPE, REQUEST],
             },
-            PartRow {
-                group: Some(tags::TEMPLATE_ATTRIBUTE),
-                fields: &[NAME_GIVEN],
-            },
+            NAMED,
         ],
         help: "a certificate for a public key",
     },
@@ -214,10 +191,7 @@ const CALLS: &[OperationRow] = &[
                 group: None,
                 fields: &[ID, REQUEST_TYPE, REQUEST, OFFSET],
             },
-            PartRow {
-                group: Some(tags::TEMPLATE_ATTRIBUTE),
-                fields: &[NAME_GIVEN],
-            },
+            NAMED,
         ],
         help: "a new certificate in the place of this one",
     },
@@ -296,10 +270,7 @@ const CALLS: &[OperationRow] = &[
         operation: Operation::GetAttributeList,
         words: 1,
         rest: Rest::Options,
-        parts: &[PartRow {
-            group: None,
-            fields: &[ID],
-        }],
+        parts: &[OBJECT],
         help: "the names of the attributes that an object has",
     },
     OperationRow {
@@ -307,10 +278,7 @@ const CALLS: &[OperationRow] = &[
         operation: Operation::ObtainLease,
         words: 1,
         rest: Rest::Options,
-        parts: &[PartRow {
-            group: None,
-            fields: &[ID],
-        }],
+        parts: &[OBJECT],
         help: "a lease of an object: for how long it may be used",
     },
     OperationRow {
@@ -329,10 +297,7 @@ const CALLS: &[OperationRow] = &[
         operation: Operation::Archive,
         words: 1,
         rest: Rest::Options,
-        parts: &[PartRow {
-            group: None,
-            fields: &[ID],
-        }],
+        parts: &[OBJECT],
         help: "the object may be stored off line",
     },
     OperationRow {
@@ -340,10 +305,7 @@ const CALLS: &[OperationRow] = &[
         operation: Operation::Recover,
         words: 1,
         rest: Rest::Options,
-        parts: &[PartRow {
-            group: None,
-            fields: &[ID],
-        }],
+        parts: &[OBJECT],
         help: "the object is to be on line again",
     },
     OperationRow {

@@ -1,7 +1,9 @@
 //! The payload of calls. Items stand in the notation of kmip_test_messages, written by hand from
 //! KMIP's tables.
-use crate::support::asked;
+use crate::support::{asked, called};
+use kmip_client::Version;
 use kmip_enums::Operation;
+use kmip_operation_words::{operation_row, takes_bytes};
 use kmip_test_messages::message;
 use kmip_wire::write_tree;
 use std::alloc::Global;
@@ -214,5 +216,53 @@ fn payloads_of_others(rt: HostRuntime) {
     let alloc = rt.alloc();
     for row in OTHERS {
         is_asked(&rt, alloc, row);
+    }
+}
+
+/// The words `rekey 4` with this ID are its call, of KMIP 1.2.
+fn is_called(rt: &impl Abort, alloc: Global, id: Option<&[u8]>) {
+    let call = called(rt, alloc, "rekey 4", id).expect(rt, "a call");
+    assert!(rt; call.operation == Operation::Rekey);
+    assert!(rt; call.version == Version::V1_2);
+    let is_same = match (&call.id, id) {
+        (Some(had), Some(id)) => had.as_slice() == id,
+        (None, None) => true,
+        _ => false,
+    };
+    assert!(rt; is_same);
+    let bytes = write_tree(alloc, &call.payload).expect(rt, "a wire form");
+    let wanted = message(alloc, "79{94 \"4\"}").expect(rt, "the notation of messages");
+    assert!(rt; bytes.as_slice() == wanted.as_slice());
+    drop(call);
+}
+
+#[test]
+fn a_call_has_its_version_and_id(rt: HostRuntime) {
+    let alloc = rt.alloc();
+    is_called(&rt, alloc, None);
+    let id: &[u8] = b"\x01\x02";
+    is_called(&rt, alloc, Some(id));
+    assert!(rt; called(&rt, alloc, "rekey", None).is_none());
+}
+
+/// Whether each word of a call gives bytes, by the call's name.
+const BYTES: &[(&str, &[bool])] = &[
+    ("encrypt", &[false, true, false]),
+    ("mac-verify", &[false, true, true, false]),
+    ("verify", &[false, true, true, false]),
+    ("hash", &[true, false]),
+    ("derive-key", &[false, false, false]),
+    ("rekey", &[false, false]),
+    ("rng-seed", &[true, false]),
+    ("poll", &[true, false]),
+];
+
+#[test]
+fn words_that_give_bytes(rt: HostRuntime) {
+    for (name, wanted) in BYTES {
+        let row = operation_row(name).expect(&rt, name);
+        for (index, wanted) in wanted.iter().enumerate() {
+            assert!(rt; takes_bytes(row, index) == *wanted, "{name} {index}");
+        }
     }
 }

@@ -1,6 +1,7 @@
 //! What the tests share. No function here has a clause, so that a test's proof has none to meet.
 use kmip_enums::Operation;
-use kmip_operation_words::{operation_refusal, operation_words};
+use kmip_operation_words::{operation_refusal, operation_words, table_call};
+use kmip_operations::OperationCall;
 use kmip_wire::{List, Text, Tree};
 use std::alloc::Global;
 use std::process::Abort;
@@ -19,6 +20,17 @@ fn words(rt: &impl Abort, alloc: Global, line: &str) -> List<Text> {
 pub fn asked(rt: &impl Abort, alloc: Global, line: &str) -> Option<(Operation, Tree)> {
     let words = words(rt, alloc, line);
     operation_words(alloc, words.as_slice()).expect(rt, "memory")
+}
+
+/// The call that the words of a line ask for, with this ID, where they are one.
+pub fn called(
+    rt: &impl Abort,
+    alloc: Global,
+    line: &str,
+    id: Option<&[u8]>,
+) -> Option<OperationCall> {
+    let words = words(rt, alloc, line);
+    table_call(alloc, words.as_slice(), id).expect(rt, "memory")
 }
 
 /// Why the words of a line are no call, where they are none.

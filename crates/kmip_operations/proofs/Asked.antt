@@ -7,6 +7,7 @@ use Rattle.kmip_enums.specs.declared.operation.Operation.{Operation}
 use Rattle.kmip_tags.specs.Tags.{REQUEST_PAYLOAD}
 use Rattle.kmip_wire.specs.Tree.{Tree}
 use Rattle.kmip_encodings.specs.Reading.{tree_of}
+use Rattle.kmip_xml.specs.Texts.{looks_like_xml, MeansBy}
 use Rattle.kmip_client.specs.Operation.{TreeRequest}
 use Rattle.kmip_client.specs.declared.operation.Version.{Version}
 use Rattle.kmip_operations.specs.Calls.{IsStructureText, IsPayloadText, has_empty_identifier, Asks}
@@ -19,9 +20,14 @@ same_tree (Some j) t u a b =
     let second : tree_of j ≡ Ok u = b.1 in
     cc
 
+same_meaning : (is_xml : Bool) (text : List ℕ) (t u : Tree) → MeansBy is_xml text t
+    → MeansBy is_xml text u → t ≡ u
+same_meaning true text t u a b = cc
+same_meaning false text t u a b = same_tree (document text) t u a b
+
 pub one_structure : (tag : ℕ) (text : List ℕ) (t u : Tree) → IsStructureText tag text t
     → IsStructureText tag text u → t ≡ u
-one_structure tag text t u a b = same_tree (document text) t u a.0 b.0
+one_structure tag text t u a b = same_meaning (looks_like_xml text) text t u a.0 b.0
 
 pub one_call : (name version : List ℕ) (id : Option (List ℕ)) (payload : List ℕ) (r s : TreeRequest)
     → Asks name version id payload r → Asks name version id payload s → r ≡ s
@@ -31,7 +37,8 @@ one_call name version id payload r s a b =
     let versions : r.version ≡ s.version =
     (let first = a.version_is in let second = b.version_is in cc) in
     let ids : r.id ≡ s.id = sym a.id_is ∙ b.id_is in
-    let payloads : r.payload ≡ s.payload = same_tree (document payload) r.payload s.payload a.payload_is.0.0 b.payload_is.0.0 in
+    let payloads : r.payload ≡ s.payload =
+    one_structure REQUEST_PAYLOAD payload r.payload s.payload a.payload_is.0 b.payload_is.0 in
     ap (λ (o : Operation). record { operation = o; version = r.version; id = r.id; payload = r.payload }) operations
     ∙ ap (λ (v : Version). record { operation = s.operation; version = v; id = r.id; payload = r.payload }) versions
     ∙ ap (λ (i : Option (List ℕ)). record { operation = s.operation; version = s.version; id = i; payload = r.payload }) ids

@@ -7,15 +7,13 @@ use Rattle.std.specs.Option.{option_and_then}
 use Rattle.json.specs.Token as token
 use Rattle.json.specs.Json.{Json, object, member, no_members, value, if_last}
 use Rattle.json.specs.Print.{print, print_from, ends, escape_byte}
-use Rattle.json.specs.Tree.{json_tokens, depth}
+use Rattle.json.specs.Tree.{json_tokens, depth, HasNumbers}
 use Rattle.json.proofs.Printed.Tokens.{tokens-print, print_from-append}
 use Rattle.json.proofs.Printed.Trees.{value-json_tokens, ArePrintable-json_tokens}
 use Rattle.kmip_wire.specs.Tree.{Tree}
-use Rattle.kmip_wire.specs.Bytes.{HasRanges}
 use Rattle.kmip_shape.specs.declared.style.Style.TheVariants.{Json as AsJson}
-use Rattle.kmip_encodings.specs.Encoding.{json_of, text_at, json_text}
-use Rattle.kmip_tags.specs.Tags.{ATTRIBUTE_VALUE}
-use Rattle.kmip_encodings.proofs.Law.{numbers}
+use Rattle.kmip_plain.specs.Payload.{payload_json, payload_text}
+use Rattle.kmip_plain.specs.declared.payload.PayloadForm.{PayloadForm}
 use Rattle.kmip_words.specs.Exchange.{value_line}
 use Rattle.kmip_operations.specs.JsonLines.{IsLineOf, answer_json}
 
@@ -34,21 +32,21 @@ printed j =
     ∙ ap (λ (l : List ℕ). print (json_tokens j) ++ l) (closing (fold (λ _ u. ends u) false (json_tokens j))))
 
 -- the line of a tree
-pub tree_reads : (tree : Tree) → HasRanges tree
-    → IsLineOf (answer_json tree) (value_line (json_text tree) AsJson)
-unfolding text_at
-tree_reads tree h =
-    let whole : Json = answer_json tree in
+pub tree_reads : (form : PayloadForm) (tree : Tree) → HasNumbers (payload_json form tree)
+    → IsLineOf (answer_json form tree) (value_line (payload_text form tree) AsJson)
+unfolding payload_text
+tree_reads form tree h =
+    let whole : Json = answer_json form tree in
     record {
       text = print (json_tokens whole);
       deep = depth whole;
       reads = ap (option_and_then (λ p. if_last p.0 p.1))
           (ap (value (depth whole)) (tokens-print (json_tokens whole)
-          (ArePrintable-json_tokens whole (numbers tree ATTRIBUTE_VALUE h, tt)) ∙ sym (append-nil (json_tokens whole)))
+          (ArePrintable-json_tokens whole (h, tt)) ∙ sym (append-nil (json_tokens whole)))
           ∙ value-json_tokens whole (depth whole) [] (omega arith));
       line_is = ap (λ (l : List ℕ). codes "{\"answer\":" ++ l)
-          (sym (append_assoc (json_text tree) (codes "}") (codes "\n")))
-          ∙ ap (λ (t : List ℕ). t ++ codes "\n") (sym (printed (json_of tree)));
+          (sym (append_assoc (payload_text form tree) (codes "}") (codes "\n")))
+          ∙ ap (λ (t : List ℕ). t ++ codes "\n") (sym (printed (payload_json form tree)));
     }
 
 front : IsUtf8 (codes "{\"answer\":")

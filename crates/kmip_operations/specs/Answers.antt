@@ -4,7 +4,9 @@ use Rattle.kmip_wire.specs.Tree.{Tree}
 use Rattle.kmip_wire.specs.Reading.{item_of}
 use Rattle.kmip_shape.specs.declared.style.Style.TheVariants.{Json}
 use Rattle.kmip_enums.specs.declared.operation.Operation.{Operation}
-use Rattle.kmip_encodings.specs.Encoding.{json_text}
+use Rattle.kmip_plain.specs.Payload.{payload_text}
+use Rattle.kmip_plain.specs.declared.payload.PayloadForm.{PayloadForm}
+use Rattle.kmip_plain.specs.declared.payload.PayloadForm.TheVariants.{Tree as AsTree}
 use Rattle.kmip_client.specs.Operation.{TreeRequest, operation_bytes}
 use Rattle.kmip_client.specs.Message.{message_at, taken_for}
 use Rattle.kmip_client.specs.Outcome.{OutcomeOf, answer_by, outcome_by}
@@ -19,11 +21,11 @@ use Rattle.kmip_words.specs.declared.ending.Ending.{Ending}
 use Rattle.kmip_words.specs.declared.ending.Ending.TheVariants.{Answered, Lost}
 use Rattle.kmip_operations.specs.JsonLines.{IsTextLine}
 
--- the line of JSON of an answer, where `first` is the message that was taken; that of an error
--- shows what this message says of it
-abbrev pub tree_line : Result Tree Error → List ℕ → List ℕ
-tree_line (Ok tree) first = value_line (json_text tree) Json
-tree_line (Err error) first = failure_line error first
+-- the line of JSON of an answer whose payload has this form, where `first` is the message that was
+-- taken; that of an error shows what this message says of it
+abbrev pub tree_line : PayloadForm → Result Tree Error → List ℕ → List ℕ
+tree_line form (Ok tree) first = value_line (payload_text form tree) Json
+tree_line form (Err error) first = failure_line error first
 
 -- the answer that is shown, to a call of this operation or to a message of the caller's: a failure
 -- of another operation is an error of its own
@@ -51,18 +53,18 @@ IsTreeReply answer first outcome response =
 
 -- the line of this answer to a call of an operation, with this ID, or to a message, was added, where
 -- `first` is the message that was taken, and the answer is not `OutOfMemory`
-pub record AddsTreeLine (operation : Option Operation) (id : Option (List ℕ))
+pub record AddsTreeLine (form : PayloadForm) (operation : Option Operation) (id : Option (List ℕ))
     (answer : Result Tree Error) (first : List ℕ) (ending : Ending) (old new : List ℕ) :
     Type 0 where
-  pub added : new ≡ old ++ tree_line (answer_to operation answer first) first
+  pub added : new ≡ old ++ tree_line form (answer_to operation answer first) first
   pub ending_is : ending ≡ tree_ending operation id answer first
-  pub json : IsTextLine (tree_line (answer_to operation answer first) first)
+  pub json : IsTextLine (tree_line form (answer_to operation answer first) first)
   pub some : answer ≢ Err OutOfMemory
 
 -- the line of JSON of an outcome over these bytes
-abbrev pub outcome_line : Option Operation → OutcomeOf Tree → List ℕ → List ℕ
-outcome_line operation outcome response =
-    tree_line (answer_to operation outcome.answer (take outcome.taken response))
+abbrev pub outcome_line : PayloadForm → Option Operation → OutcomeOf Tree → List ℕ → List ℕ
+outcome_line form operation outcome response =
+    tree_line form (answer_to operation outcome.answer (take outcome.taken response))
     (take outcome.taken response)
 
 -- and how the call ended
@@ -85,9 +87,9 @@ sent_outcome reads settings response = record {
 }
 
 -- the line of JSON that says what these bytes answer: of the payload, or of the error
-abbrev pub operation_json_line : Settings → TreeRequest → List ℕ → List ℕ
-operation_json_line settings request response =
-    outcome_line (Some request.operation)
+abbrev pub operation_json_line : PayloadForm → Settings → TreeRequest → List ℕ → List ℕ
+operation_json_line form settings request response =
+    outcome_line form (Some request.operation)
     (sent_outcome (identified_answer request.operation request.id) settings response) response
 
 -- how the call ended that these bytes answer
@@ -96,7 +98,8 @@ operation_ending settings request response =
     outcome_ending (Some request.operation) request.id
     (sent_outcome (identified_answer request.operation request.id) settings response) response
 
--- the same of a message of the caller's; the credential plays no part
+-- the same of a message of the caller's, whose answer is shown as a tree; the credential plays no
+-- part
 
 abbrev pub message_outcome : Settings → Tree → List ℕ → OutcomeOf Tree
 message_outcome settings message rest =
@@ -104,7 +107,7 @@ message_outcome settings message rest =
 
 abbrev pub message_json_line : Settings → List ℕ → List ℕ
 message_json_line settings response =
-    outcome_line None (sent_outcome whole_answer settings response) response
+    outcome_line AsTree None (sent_outcome whole_answer settings response) response
 
 abbrev pub message_ending : Settings → List ℕ → Ending
 message_ending settings response =

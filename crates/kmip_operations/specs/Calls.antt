@@ -1,16 +1,14 @@
 -- A call of any operation, by the operation's name, a version of KMIP, a Unique Batch Item ID and a
--- payload in JSON; and a message in JSON.
-use Rattle.std.specs.Prelude.{◌≡◌, ℕ, ◌==◌, ◌&&◌, ◌||◌, Bool, true, false, List, length, codes, Option, Some, None, Ok, if◌then◌else◌, bytes_eq}
-use Rattle.std.specs.Option.{option_and_then, IsSomeAnd}
-use Rattle.json.specs.Json.{document}
-use Rattle.json.specs.Strict.{HasUniqueKeys}
+-- payload in JSON or XML; and a message in JSON or XML.
+use Rattle.std.specs.Prelude.{◌≡◌, ℕ, ◌==◌, ◌&&◌, ◌||◌, Bool, true, false, List, length, codes, Option, Some, None, if◌then◌else◌, bytes_eq}
+use Rattle.std.specs.Option.{option_and_then}
 use Rattle.kmip_tags.specs.Tags.{OPERATION, REQUEST_MESSAGE, REQUEST_PAYLOAD, UNIQUE_IDENTIFIER}
 use Rattle.kmip_wire.specs.Tree.{Tree, Trees, Scalar, scalar, structure, none, more, text_string}
 use Rattle.kmip_shape.specs.Enumerations.{variant_at}
 use Rattle.kmip_enums.specs.Operations.{operation_line, operation_variants}
 use Rattle.kmip_enums.specs.declared.operation.Operation.{Operation}
 use Rattle.kmip_encodings.specs.Names.{enumeration_number}
-use Rattle.kmip_encodings.specs.Reading.{tree_of}
+use Rattle.kmip_xml.specs.Texts.{Means}
 use Rattle.kmip_client.specs.Operation.{TreeRequest}
 use Rattle.kmip_client.specs.declared.operation.Version.{Version}
 use Rattle.kmip_client.specs.declared.operation.Version.TheVariants.{V1_0, V1_1, V1_2}
@@ -43,11 +41,10 @@ abbrev pub is_structure : ℕ → Tree → Bool
 is_structure wanted (structure tag items) = tag == wanted
 is_structure wanted (scalar tag value) = false
 
--- the text is the JSON of this structure with the tag, in which no object has a name twice
+-- the text is the JSON, in which no object has a name twice, or the XML of this structure with the
+-- tag
 abbrev pub IsStructureText : ℕ → List ℕ → Tree → Type 0
-IsStructureText wanted text tree =
-    IsSomeAnd (document text) (λ j. HasUniqueKeys j × (tree_of j ≡ Ok tree))
-    × (is_structure wanted tree ≡ true)
+IsStructureText wanted text tree = Means text tree × (is_structure wanted tree ≡ true)
 
 -- whether an item is an empty Unique Identifier, which a server may take for that of another object
 abbrev pub is_empty_identifier : ℕ → Scalar → Bool
@@ -65,18 +62,18 @@ abbrev mutual
   have_empty_identifier (more item items) =
       has_empty_identifier item || have_empty_identifier items
 
--- the text is the JSON of the payload of a request (KMIP 1.0, 9.1.3.1) in which no identifier is
+-- the text is the JSON or XML of the payload of a request (KMIP 1.0, 9.1.3.1) in which no identifier is
 -- empty
 abbrev pub IsPayloadText : List ℕ → Tree → Type 0
 IsPayloadText text tree =
     IsStructureText REQUEST_PAYLOAD text tree × (has_empty_identifier tree ≡ false)
 
--- the text is the JSON of a whole request message
+-- the text is the JSON or XML of a whole request message
 abbrev pub IsMessageText : List ℕ → Tree → Type 0
 IsMessageText = IsStructureText REQUEST_MESSAGE
 
 -- the call that a name, a version, a Unique Batch Item ID, where there is one, and a payload in JSON
--- ask for
+-- or XML ask for
 pub record Asks (name version : List ℕ) (id : Option (List ℕ)) (payload : List ℕ)
     (request : TreeRequest) : Type 0 where
   pub operation_is : operation_named name ≡ Some request.operation

@@ -4,7 +4,8 @@ use Rattle.std.specs.Option.{option_and_then}
 use Rattle.json.specs.Json.{Json, object, member, no_members, value, if_last}
 use Rattle.json.specs.Lex.{tokens}
 use Rattle.kmip_wire.specs.Tree.{Tree}
-use Rattle.kmip_encodings.specs.Encoding.{json_of}
+use Rattle.kmip_plain.specs.Payload.{payload_json}
+use Rattle.kmip_plain.specs.declared.payload.PayloadForm.{PayloadForm}
 use Rattle.kmip_words.specs.JsonLines.{IsGrammarLine}
 
 -- the value that a text is, where arrays and objects nest at most so deep; `document` of the crate
@@ -25,6 +26,6 @@ pub record IsTextLine (line : List ℕ) : Type 0 where
   pub grammar : ((json : Json) × IsLineOf json line) ⊎ IsGrammarLine line
   pub utf8 : IsUtf8 line
 
--- what the line of a tree means
-abbrev pub answer_json : Tree → Json
-answer_json tree = object (member (codes "answer") (json_of tree) no_members)
+-- what the line of a tree in this form means
+abbrev pub answer_json : PayloadForm → Tree → Json
+answer_json form tree = object (member (codes "answer") (payload_json form tree) no_members)

@@ -2,7 +2,8 @@
 ghost use Rattle.std.specs.Prelude.{◌≡◌, ◌++◌, ◌≤◌, [], length, take, option_map};
 ghost use Rattle.std.specs.Prelude.{None, Err, IfOk, OnOk, IsUtf8};
 ghost use Rattle.kmip_shape.specs.declared.style.Style.TheVariants.{Json};
-ghost use Rattle.kmip_encodings.specs.Encoding.{json_text};
+ghost use Rattle.kmip_plain.specs.Payload.{payload_text};
+ghost use Rattle.kmip_plain.specs.declared.payload.PayloadForm.{PayloadForm as TheForm};
 ghost use Rattle.kmip_words.specs.Exchange.{value_line};
 ghost use Rattle.kmip_operations.specs.Calls.{request_of};
 ghost use Rattle.kmip_operations.specs.Answers.{operation_json_line, operation_ending};
@@ -12,21 +13,26 @@ ghost use Rattle.kmip_operations.specs.JsonLines.{IsTextLine};
 use crate::call::{OperationCall, id_of};
 use crate::laws::lines_are_json;
 use kmip_client::{Error, Reading, is_of_other_item, read_operation_response};
-use kmip_encodings::to_json;
 use kmip_enums::Operation;
+use kmip_plain::{PayloadForm, push_payload};
 use kmip_wire::{OutOfMemory, Text, Tree};
 use kmip_words::{Ending, Settings, show_failure};
 use std::alloc::Global;
 
-/// Adds a tree as a line of JSON: `{"answer":TREE}`.
+/// Adds a tree in this form as a line of JSON: `{"answer":PAYLOAD}`.
 #[tactic(auto, using(std::proofs::lemmas::List::append_assoc))]
-fn push_tree(alloc: Global, tree: &Tree, line: &mut Vec<u8>) -> Result<(), OutOfMemory>
+fn push_tree(
+    alloc: Global,
+    form: PayloadForm,
+    tree: &Tree,
+    line: &mut Vec<u8>,
+) -> Result<(), OutOfMemory>
     ensures line { OnOk result
-        (line.new.items ≡ line.old.items ++ value_line (json_text tree.now) Json) }
-    ensures utf8 { OnOk result (IsUtf8 (value_line (json_text tree.now) Json)) }
+        (line.new.items ≡ line.old.items ++ value_line (payload_text form tree.now) Json) }
+    ensures utf8 { OnOk result (IsUtf8 (value_line (payload_text form tree.now) Json)) }
 {
     line.extend_from_slice(b"{\"answer\":")?;
-    to_json(alloc, tree, line)?;
+    push_payload(alloc, form, tree, line)?;
     line.extend_from_slice(b"}\n")?;
     Ok(())
 }
@@ -51,7 +57,7 @@ fn ending_for(
 
 /// Adds an error as a line of JSON, and returns how a call ended that has no Unique Batch Item ID.
 /// `first` is the message that was taken, and `operation` that of the call, `None` for a message of
-/// the caller's.
+/// the caller's. The line is the same in each form.
 fn push_error_line(
     alloc: Global,
     operation: Option<Operation>,
@@ -60,7 +66,8 @@ fn push_error_line(
     line: &mut Text,
 ) -> Result<Ending, OutOfMemory>
     ensures { IfOk result
-        (λ ending. AddsTreeLine operation None (Err error.now) first.now ending line.old line.new) }
+        (λ ending. (form : TheForm) → AddsTreeLine form operation None (Err error.now) first.now
+        ending line.old line.new) }
 {
     lines_are_json();
     line.as_str();
@@ -70,7 +77,8 @@ fn push_error_line(
 }
 
 /// Adds an error as a line of JSON, and returns how the call ended. `first` is the message that was
-/// taken, and `operation` and `id` those of the call, `None` for a message of the caller's.
+/// taken, and `operation` and `id` those of the call, `None` for a message of the caller's. The line
+/// is the same in each form.
 fn push_error(
     alloc: Global,
     operation: Option<Operation>,
@@ -79,32 +87,34 @@ fn push_error(
     first: &[u8],
     line: &mut Text,
 ) -> Result<Ending, OutOfMemory>
-    ensures { IfOk result (λ ending. AddsTreeLine operation (option_map (λ id. id.now) id.entry)
-        (Err error.now) first.now ending line.old line.new) }
+    ensures { IfOk result (λ ending. (form : TheForm) → AddsTreeLine form operation
+        (option_map (λ id. id.now) id.entry) (Err error.now) first.now ending line.old line.new) }
 {
     let ended = push_error_line(alloc, operation, error, first, line)?;
     ending_for(alloc, id, first, ended)
 }
 
-/// Adds the line of what a call is answered with, and returns how the call ended. `first` is the
-/// message that was taken, and `operation` and `id` those of the call, `None` for a message of the
-/// caller's. Its only error is `OutOfMemory`; then a part of the line may have been added.
+/// Adds the line of what a call is answered with, its payload in this form, and returns how the call
+/// ended. `first` is the message that was taken, and `operation` and `id` those of the call, `None`
+/// for a message of the caller's. Its only error is `OutOfMemory`; then a part of the line may have been added.
 fn push_answer(
     alloc: Global,
+    form: PayloadForm,
     operation: Option<Operation>,
     id: Option<&[u8]>,
     answer: Result<Tree, Error>,
     first: &[u8],
     line: &mut Vec<u8>,
 ) -> Result<Ending, OutOfMemory>
-    ensures { IfOk result (λ ending. AddsTreeLine operation (option_map (λ id. id.now) id.entry) answer
-        first.now ending line.old.items line.new.items) }
+    ensures { IfOk result (λ ending. AddsTreeLine form operation
+        (option_map (λ id. id.now) id.entry) answer first.now ending line.old.items
+        line.new.items) }
 {
     lines_are_json();
     match answer {
         Ok(tree) => {
             tree.ranges();
-            push_tree(alloc, &tree, line)?;
+            push_tree(alloc, form, &tree, line)?;
             Ok(Ending::Answered)
         }
         Err(error) => {
@@ -129,18 +139,27 @@ pub struct TreeAnswer {
 /// response, and its line; of a message of the caller's where both are `None`.
 pub fn tree_answer_of(
     alloc: Global,
+    form: PayloadForm,
     operation: Option<Operation>,
     id: Option<&[u8]>,
     reading: Reading<Tree>,
     response: &[u8],
 ) -> Result<TreeAnswer, OutOfMemory>
     requires { reading.taken ≤ length response.now }
-    ensures { IfOk result (λ answer. AddsTreeLine operation (option_map (λ id. id.now) id.entry)
+    ensures { IfOk result (λ answer. AddsTreeLine form operation (option_map (λ id. id.now) id.entry)
         reading.answer (take reading.taken response.now) answer.ending [] answer.line.items) }
 {
     let Reading { answer, taken } = reading;
     let mut line = Vec::new(alloc);
-    let ending = push_answer(alloc, operation, id, answer, &response[..taken], &mut line)?;
+    let ending = push_answer(
+        alloc,
+        form,
+        operation,
+        id,
+        answer,
+        &response[..taken],
+        &mut line,
+    )?;
     Ok(TreeAnswer { ending, line })
 }
 
@@ -148,8 +167,9 @@ pub fn tree_answer_of(
 /// client with these settings returns, once the request was sent, over a link with these bytes to
 /// read. It depends on no byte after the first message.
 ///
-/// The line is `{"answer":TREE}` with the payload of the response, or
-/// `{"error":"ServerError","text":".."}` with the name of the error's variant and its text. The
+/// The line is `{"answer":PAYLOAD}` with the payload of the response in this form, as `push_payload`
+/// of kmip_plain writes it, or `{"error":"ServerError","text":".."}` with the name of the error's
+/// variant and its text. The
 /// line of a `ServerError` or an `ItemNotFound` has what the response says of the failure, as far
 /// as it stands in it: the members `reason`, an object with the `name` of the server's reason, where
 /// it is one of KMIP 1.2, and its `number`; and `message`, the server's text. That of an
@@ -168,14 +188,15 @@ pub fn operation_answer(
     settings: &Settings,
     call: &OperationCall,
     response: &[u8],
+    form: PayloadForm,
 ) -> Result<TreeAnswer, OutOfMemory>
     ensures line { IfOk result (λ answer. answer.line.items ≡
-        operation_json_line settings.now (request_of call.now) response.now) }
+        operation_json_line form settings.now (request_of call.now) response.now) }
     ensures ending { IfOk result (λ answer. answer.ending ≡
         operation_ending settings.now (request_of call.now) response.now) }
     ensures json { IfOk result (λ answer. IsTextLine answer.line.items) }
 {
     let id = id_of(call);
     let reading = read_operation_response(alloc, call.operation, id, response, settings.limit());
-    tree_answer_of(alloc, Some(call.operation), id, reading, response)
+    tree_answer_of(alloc, form, Some(call.operation), id, reading, response)
 }

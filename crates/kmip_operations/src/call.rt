@@ -1,5 +1,5 @@
 //! A call of any operation, by the operation's name, a version of KMIP, a Unique Batch Item ID and a
-//! payload in JSON.
+//! payload in JSON or XML.
 ghost use Rattle.std.specs.Prelude.{◌≡◌, IfOk, MatchOption, Result, option_map};
 ghost use Rattle.kmip_wire.specs.Tree.{Tree as TheTree, trees_of};
 ghost use Rattle.kmip_client.specs.Operation.{TreeRequest};
@@ -8,10 +8,11 @@ ghost use Rattle.kmip_operations.specs.Calls.{has_empty_identifier, have_empty_i
 ghost use Rattle.kmip_operations.specs.Calls.{IsStructureText, IsPayloadText, Asks, request_of};
 
 use kmip_client::Version;
-use kmip_encodings::{EncodingError, enumeration_number, from_json};
+use kmip_encodings::{EncodingError, enumeration_number};
 use kmip_enums::{Enumeration, Operation};
 use kmip_tags::tags::{OPERATION, REQUEST_PAYLOAD, UNIQUE_IDENTIFIER};
 use kmip_wire::{Blob, Node, OutOfMemory, Tag, Tree};
+use kmip_xml::{TextError, XmlError, from_text};
 use std::alloc::Global;
 
 /// A call of an operation.
@@ -76,12 +77,12 @@ pub(crate) fn is_structure(tree: &Tree, tag: u32) -> bool
     }
 }
 
-/// The structure with this tag whose JSON a text is.
+/// The structure with this tag whose JSON or XML a text is.
 pub fn structure_of(alloc: Global, text: &str, tag: u32) -> Result<Option<Tree>, OutOfMemory>
     ensures { IfOk result (λ tree. MatchOption tree
         ((t : TheTree) → IsStructureText tag text.now t → ⊥) (IsStructureText tag text.now)) }
 {
-    match from_json(alloc, text) {
+    match from_text(alloc, text) {
         Ok(tree) => {
             if is_structure(&tree, tag) {
                 Ok(Some(tree))
@@ -89,7 +90,8 @@ pub fn structure_of(alloc: Global, text: &str, tag: u32) -> Result<Option<Tree>,
                 Ok(None)
             }
         }
-        Err(EncodingError::OutOfMemory) => Err(OutOfMemory),
+        Err(TextError::Json(EncodingError::OutOfMemory))
+        | Err(TextError::Xml(XmlError::OutOfMemory)) => Err(OutOfMemory),
         Err(_) => Ok(None),
     }
 }
@@ -121,7 +123,7 @@ fn have_empty_identifier(items: &[Tree]) -> bool
     false
 }
 
-/// The payload whose JSON a text is, and in which no identifier is empty.
+/// The payload whose JSON or XML a text is, and in which no identifier is empty.
 pub(crate) fn payload_of(alloc: Global, text: &str) -> Result<Option<Tree>, OutOfMemory>
     ensures { IfOk result (λ tree. MatchOption tree
         ((t : TheTree) → IsPayloadText text.now t → ⊥) (IsPayloadText text.now)) }
@@ -136,11 +138,11 @@ pub(crate) fn payload_of(alloc: Global, text: &str) -> Result<Option<Tree>, OutO
 }
 
 /// The call of an operation. `name` is the operation's name, as `Encrypt`, `Rekey` or
-/// `MACVerify`; `version` is `1.0`, `1.1` or `1.2`; `payload` is the JSON of a structure with the
-/// tag `RequestPayload`, as kmip_encodings reads it: any of the names, types and values that it
-/// has, in at most 64 levels, and with no empty Unique Identifier anywhere in it, which a server may
-/// take for that of another object: who means one sends a message. `None` exactly where one of the
-/// three is not so. `id` is the Unique Batch Item ID of the request (KMIP 1.0, 6.4), whatever its
+/// `MACVerify`; `version` is `1.0`, `1.1` or `1.2`; `payload` is the JSON, or where its first mark is
+/// `<` the XML, of a structure with the tag `RequestPayload`, as kmip_xml's `from_text` reads it: any
+/// of the names, types and values that it has, in at most 64 levels, and with no empty Unique
+/// Identifier anywhere in it, which a server may take for that of another object: who means one
+/// sends a message. `None` exactly where one of the three is not so. `id` is the Unique Batch Item ID of the request (KMIP 1.0, 6.4), whatever its
 /// bytes; `operation_answer` says which responses are then the call's.
 pub fn operation_call(
     alloc: Global,

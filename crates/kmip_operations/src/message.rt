@@ -9,13 +9,14 @@ ghost use Rattle.kmip_operations.specs.JsonLines.{IsTextLine};
 use crate::answer::{TreeAnswer, tree_answer_of};
 use crate::call::structure_of;
 use kmip_client::{read_whole_message, write_whole_message};
+use kmip_plain::PayloadForm;
 use kmip_tags::tags::REQUEST_MESSAGE;
 use kmip_wire::{Blob, OutOfMemory, Tree};
 use kmip_words::{Settings, bytes_if_any};
 use std::alloc::Global;
 
-/// The message whose JSON a text is: a structure with the tag `RequestMessage` (KMIP 1.0, 7.1), as
-/// kmip_encodings reads it, in at most 64 levels. `None` exactly where the text is none.
+/// The message whose JSON or XML a text is: a structure with the tag `RequestMessage` (KMIP 1.0,
+/// 7.1), as kmip_xml's `from_text` reads it, in at most 64 levels. `None` exactly where the text is none.
 pub fn message_of(alloc: Global, text: &str) -> Result<Option<Tree>, OutOfMemory>
     ensures { IfOk result (λ message. MatchOption message
         ((t : TheTree) → IsMessageText text.now t → ⊥) (IsMessageText text.now)) }
@@ -50,5 +51,5 @@ pub fn message_answer(
     ensures json { IfOk result (λ answer. IsTextLine answer.line.items) }
 {
     let reading = read_whole_message(alloc, response, settings.limit());
-    tree_answer_of(alloc, None, None, reading, response)
+    tree_answer_of(alloc, PayloadForm::Tree, None, None, reading, response)
 }

@@ -5,13 +5,14 @@ ghost use Rattle.kmip_operations.specs.Calls.{IsPayloadText, IsMessageText};
 
 use crate::call::{is_structure, payload_of};
 use crate::message::message_of;
-use kmip_encodings::{from_json, push_refusal, refusal_of};
+use kmip_encodings::push_refusal;
 use kmip_tags::tags::{REQUEST_MESSAGE, REQUEST_PAYLOAD};
 use kmip_wire::{OutOfMemory, Text};
+use kmip_xml::{from_text, text_refusal_of};
 use std::alloc::Global;
 
-/// Why a text is not the JSON of a structure with the tag: where it is not read, what was expected
-/// there and what stands there; `other` where it is an item with another tag or type, and `within`
+/// Why a text is not the JSON or XML of a structure with the tag: where it is not read, what was
+/// expected there and what stands there; `other` where it is an item with another tag or type, and `within`
 /// where it is such a structure.
 fn why_not(
     alloc: Global,
@@ -20,7 +21,7 @@ fn why_not(
     other: &str,
     within: &str,
 ) -> Result<Text, OutOfMemory> {
-    match from_json(alloc, text) {
+    match from_text(alloc, text) {
         Ok(tree) => Text::of(
             alloc,
             if is_structure(&tree, tag) {
@@ -31,7 +32,7 @@ fn why_not(
         ),
         Err(error) => {
             let mut why = Text::new(alloc);
-            push_refusal(&mut why, &refusal_of(alloc, text, &error)?)?;
+            push_refusal(&mut why, &text_refusal_of(alloc, text, &error)?)?;
             Ok(why)
         }
     }
@@ -48,8 +49,8 @@ fn why_no_message(alloc: Global, text: &str) -> Result<Text, OutOfMemory> {
     why_not(alloc, text, REQUEST_MESSAGE, other, other)
 }
 
-/// Why a text is not the JSON of a RequestPayload, or has an empty Unique Identifier; `None` exactly
-/// where `operation_call` takes it.
+/// Why a text is not the JSON or XML of a RequestPayload, or has an empty Unique Identifier; `None`
+/// exactly where `operation_call` takes it.
 pub fn payload_refusal(alloc: Global, text: &str) -> Result<Option<Text>, OutOfMemory>
     ensures { IfOk result (λ why. MatchOption why ((t : TheTree) × IsPayloadText text.now t)
         (λ _. (t : TheTree) → IsPayloadText text.now t → ⊥)) }
@@ -60,7 +61,7 @@ pub fn payload_refusal(alloc: Global, text: &str) -> Result<Option<Text>, OutOfM
     }
 }
 
-/// Why a text is not the JSON of a RequestMessage; `None` exactly where `message_of` takes it.
+/// Why a text is not the JSON or XML of a RequestMessage; `None` exactly where `message_of` takes it.
 pub fn message_refusal(alloc: Global, text: &str) -> Result<Option<Text>, OutOfMemory>
     ensures { IfOk result (λ why. MatchOption why ((t : TheTree) × IsMessageText text.now t)
         (λ _. (t : TheTree) → IsMessageText text.now t → ⊥)) }

@@ -1,5 +1,5 @@
 -- What the program writes for its input.
-use Rattle.std.specs.Prelude.{◌≡◌, ℕ, ◌==◌, ◌||◌, ◌&&◌, not, Bool, List, [], ◌∷◌, ◌++◌, Option, Some, None, filter, IsUtf8, Ok, Err, if◌then◌else◌, codes, bytes_eq}
+use Rattle.std.specs.Prelude.{◌≡◌, ℕ, ◌==◌, ◌||◌, ◌&&◌, not, Bool, List, [], ◌∷◌, ◌++◌, Option, Some, None, filter, IsUtf8, if◌then◌else◌, codes, bytes_eq}
 use Rattle.std.specs.Option.{unwrap_or}
 use Rattle.std.specs.Result.{result_ok}
 use Rattle.hex.specs.Hex.{decode_of, encode_upper}
@@ -7,8 +7,8 @@ use Rattle.kmip_wire.specs.Tree.{Tree}
 use Rattle.kmip_wire.specs.Bytes.{bytes}
 use Rattle.kmip_wire.specs.Parses.{Parses}
 use Rattle.kmip_encodings.specs.Encoding.{json_text}
-use Rattle.kmip_encodings.specs.Reading.{ReadsText}
 use Rattle.kmip_encodings.specs.Xml.{xml_of}
+use Rattle.kmip_xml.specs.Texts.{Means, Unread}
 use Rattle.kmip_ttlv.specs.declared.program.Command.{Command}
 use Rattle.kmip_ttlv.specs.declared.program.Command.TheVariants as commands
 use Rattle.kmip_ttlv.specs.declared.program.Failure.{Failure}
@@ -45,10 +45,11 @@ abbrev pub Decodes : (Tree → List ℕ) → List ℕ → List ℕ → Type 0
 Decodes text input output =
     (t : Tree) × Parses t 1 (bytes_in input) × (output ≡ text t ++ 10 ∷ [])
 
--- the input is JSON that means a tree, and the output is its canonical bytes in hex and a line feed
+-- the input means a tree, in XML or JSON, and the output is its canonical bytes in hex and a line
+-- feed
 abbrev pub Encodes : List ℕ → List ℕ → Type 0
 Encodes input output =
-    (t : Tree) × ReadsText (Ok t) input
+    (t : Tree) × Means input t
     × ((b : List ℕ) × (bytes t ≡ Some b) × (output ≡ encode_upper b ++ 10 ∷ []))
 
 abbrev pub Writes : Command → List ℕ → List ℕ → Type 0
@@ -60,8 +61,8 @@ Writes commands.Encode input output = Encodes input output
 abbrev pub Fails : List ℕ → Failure → Type 0
 Fails input failures.NotItem = (t : Tree) → Parses t 1 (bytes_in input) → ⊥
 Fails input failures.NotText = ¬ IsUtf8 input
-Fails input (failures.Unread error) = ReadsText (Err error) input
-Fails input failures.NoForm = (t : Tree) × ReadsText (Ok t) input × (bytes t ≡ None)
+Fails input (failures.Unread error) = Unread input error
+Fails input failures.NoForm = (t : Tree) × Means input t × (bytes t ≡ None)
 Fails input failures.OutOfMemory = Unit {0}
 
 -- the program's name, a reason and a line feed

@@ -1,4 +1,4 @@
-//! The program `kmip_ttlv`: it turns an item of KMIP into JSON or XML, and JSON into an item.
+//! The program `kmip_ttlv`: it turns an item of KMIP into JSON or XML, and these into an item.
 //!
 //! It reads standard input to its end and writes standard output, so that it stands in pipes.
 #![tactic(auto)]
@@ -17,11 +17,11 @@ use std::io::{Read, Write};
 use std::process::ExitCode;
 
 const HELP: &str = "\
-Turns an item of KMIP, as it is sent, into JSON or XML, and JSON into an item.
+Turns an item of KMIP, as it is sent, into JSON or XML, and these into an item.
 
     kmip_ttlv decode        hex digits or the bytes of an item, to JSON
     kmip_ttlv decode xml    the same, to XML
-    kmip_ttlv encode        JSON, to hex digits
+    kmip_ttlv encode        JSON, or XML where it begins with <, to hex digits
 
 It reads standard input to its end and writes one line on standard output.
 

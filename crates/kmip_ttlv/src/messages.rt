@@ -4,23 +4,24 @@ ghost use Rattle.kmip_ttlv.specs.Program.{IsMessage};
 
 use crate::program::{Failure, bytes_in};
 use itoa::Buffer;
-use kmip_encodings::{EncodingError, push_refusal, refusal_of};
+use kmip_encodings::push_refusal;
 use kmip_faults::fault_of;
 use kmip_wire::{OutOfMemory, Text, front_len};
+use kmip_xml::{TextError, text_refusal_of};
 use std::alloc::Global;
 use std::str;
 
-/// Why a text in JSON is not read, and where.
+/// Why a text is not read, and where.
 fn push_error(
     alloc: Global,
     out: &mut Text,
     input: &[u8],
-    error: &EncodingError,
+    error: &TextError,
 ) -> Result<(), OutOfMemory> {
     let Ok(text) = str::from_utf8(input) else {
         return out.push_str("the input is not UTF-8");
     };
-    push_refusal(out, &refusal_of(alloc, text, error)?)
+    push_refusal(out, &text_refusal_of(alloc, text, error)?)
 }
 
 /// Appends a number of bytes.

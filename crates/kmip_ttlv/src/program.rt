@@ -8,10 +8,11 @@ ghost use Rattle.kmip_encodings.specs.Encoding.{json_text};
 ghost use Rattle.kmip_encodings.specs.Xml.{xml_of};
 
 use hex::FromHexError;
-use kmip_encodings::{EncodingError, from_json, to_json, to_xml};
+use kmip_encodings::{to_json, to_xml};
 use kmip_wire::{
     Blob, OutOfMemory as NoMemory, Text, Tree, WireError, one_tree, read_tree, write_tree,
 };
+use kmip_xml::{TextError, from_text};
 use std::alloc::Global;
 use std::str;
 
@@ -22,19 +23,19 @@ pub enum Command {
     DecodeJson,
     /// `decode xml`: the same as XML.
     DecodeXml,
-    /// `encode`: JSON as the bytes of an item, in hex.
+    /// `encode`: JSON or XML as the bytes of an item, in hex.
     Encode,
 }
 
 /// Why there is no output.
-#[derive(Debug, Drop)]
+#[derive(Drop)]
 pub enum Failure {
     /// The input is no item, or more than one.
     NotItem,
     /// The input is not UTF-8.
     NotText,
-    /// The input is no JSON that means a tree.
-    Unread(EncodingError),
+    /// The input is no XML and no JSON that means a tree.
+    Unread(TextError),
     /// The tree has no bytes: an item is too long, or the bytes of a Big Integer are no multiple
     /// of 8.
     NoForm,
@@ -177,7 +178,7 @@ fn encode(alloc: Global, input: &[u8]) -> Result<Vec<u8>, Failure>
     let Ok(text) = str::from_utf8(input) else {
         return Err(Failure::NotText);
     };
-    let tree = match from_json(alloc, text) {
+    let tree = match from_text(alloc, text) {
         Ok(tree) => tree,
         Err(error) => return Err(Failure::Unread(error)),
     };

@@ -28,6 +28,9 @@ fn items_are_decoded_and_encoded(rt: HostRuntime) {
     is_made(&rt, alloc, Command::DecodeJson, bytes, JSON);
     is_made(&rt, alloc, Command::DecodeXml, DIGITS.as_bytes(), XML);
     is_made(&rt, alloc, Command::Encode, JSON.as_bytes(), DIGITS);
+    is_made(&rt, alloc, Command::Encode, XML.as_bytes(), DIGITS);
+    let commented = b"\n<!-- one --> <BatchCount value='0x00000001' type='Integer'></BatchCount>";
+    is_made(&rt, alloc, Command::Encode, commented, DIGITS);
 }
 
 /// Commands, inputs that are not transcoded, and the error of each.
@@ -77,6 +80,11 @@ const FAILURES: &[(Command, &[u8], &str)] = &[
         Command::Encode,
         b"{\"tag\":\"Attribute\",\"value\":[{\"tag\":\"Attribute\",\"value\":[]},{\"tag\":\"Attribute\",\"value\":[{\"tag\":\"State\",\"type\":\"Enumeration\",\"value\":\"Actif\"}]}]}",
         "kmip_ttlv: line 1, column 132, value[1].value[0].value: expected PreActive, Active, Deactivated, Compromised, Destroyed, DestroyedCompromised, or 0x and eight hex digits, found \"Actif\"\n",
+    ),
+    (
+        Command::Encode,
+        b"<BatchCount type=\"Integer\" value=\"x\"/>",
+        "kmip_ttlv: line 1, column 2, BatchCount.value: expected a whole number from -2147483648 to 2147483647, or 0x and eight hex digits, found \"x\"\n",
     ),
     (
         Command::Encode,

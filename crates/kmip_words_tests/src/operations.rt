@@ -2,8 +2,8 @@
 //! is written by hand.
 use crate::support::{bytes_of, plain, text};
 use kmip_operations::{
-    OperationCall, TreeAnswer, message_answer, message_of, message_request, operation_answer,
-    operation_call, operation_request,
+    OperationCall, PayloadForm, TreeAnswer, message_answer, message_of, message_request,
+    operation_answer, operation_call, operation_request,
 };
 use kmip_wire::{Text, Tree};
 use kmip_words::{Ending, Settings};
@@ -73,7 +73,9 @@ fn is_answered(
 ) {
     let response = bytes_of(rt, alloc, row.response);
     let settings = Settings::new(None, None, limit);
-    let answer = operation_answer(alloc, &settings, call, &response).expect(rt, "memory");
+    let answer = operation_answer(alloc, &settings, call, &response, PayloadForm::Tree).expect(
+        rt, "memory",
+    );
     is_line(rt, &answer, row);
     drop(answer);
 }

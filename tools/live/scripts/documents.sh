@@ -9,6 +9,8 @@ verdict 'kmip_call --help names the calls'
 . "$top/clients/shell/completion.bash"
 [[ $(printf '%s\n' "${_kmip_calls[@]}" | sort) == "$(printf '%s\n' "${calls[@]}")" ]]
 verdict 'the completion has the same'
+[[ $(printf '%s\n' "${_kmip_table[@]}" | sort) == "$("$built/kmip_call" --operations | sed -n 's/^\([a-z][a-z-]*\).*/\1/p' | sort)" ]]
+verdict 'and the calls that kmip_call --operations lists'
 page=$top/clients/man/kmip_call.1
 [[ $(sed -n '/^\.Ss Calls/,/^\.Ss Values/s/^\.It Cm \([a-z-]*\).*/\1/p' "$page" | sort) == "$(printf '%s\n' "${calls[@]}")" ]]
 verdict 'the manual page has the same'
@@ -43,14 +45,14 @@ completes 'kmip sign 2 00 ha' hash= && completes 'kmip sign 2 00 hash=SHA2' SHA2
     completes 'kmip locate where state=Des' Destroyed DestroyedCompromised && completes 'kmip register p' public private &&
     completes 'kmip attribute-modify 1 name=a i' index= && completes 'kmip query h'
 verdict 'completion of options and of their values'
-completes 'kmip_call cr' create create-rsa create-aes && completes 'kmip_call user=a p' password= &&
+completes 'kmip_call cr' create create-rsa create-aes create-ec create-pair create-key && completes 'kmip_call user=a pa' password= &&
     completes 'kmip_call limit=1 s' sign && completes 'kmip_call record=a' 'a record' another &&
     completes 'kmip_call user=a destroy x' && completes 'kmip_call --v' --version &&
     completes 'kmip_call user=a operation Enc' Encrypt && completes 'kmip_call operation Encrypt v' version=
 verdict 'completion of kmip_call'
 completes 'kmip operation MAC' MAC MACVerify && completes 'kmip operation MAC ' version= item-id= &&
     completes 'kmip operation MAC item-id=01 ' version= && completes 'kmip operation MAC version=1.0 ' item-id= && completes 'kmip operation MAC @ano' another && completes 'kmip message @ano' another &&
-    completes 'kmip locate w' where && completes 'kmip de' destroy && completes 'kmip p' pem && completes 'kmip destroy d' && completes 'kmip_field sig' signature_data &&
+    completes 'kmip locate w' where && completes 'kmip des' destroy && completes 'kmip p' pem poll && completes 'kmip enc' encrypt && completes 'kmip_field data dec' decrypt && completes 'kmip destroy d' && completes 'kmip_field sig' signature_data &&
     completes 'kmip_field signature_data si' sign && completes 'kmip_open localhost:5696 ano' another && completes 'kmip_open a'
 verdict 'completion of the functions'
 for manual in "$top"/clients/man/*.1; do

@@ -1,10 +1,11 @@
 #!/usr/bin/python3
 """Writes calls and responses to them for the fuzzers: corpus.py FOLDER CERTS.
 
-Each pair is NAME.call and NAME.response in FOLDER, with the same call as any operation in
-NAME.operation: its name, its version and its payload in JSON, on three lines. The responses are
-those of the fake servers of tools/live; CERTS is a folder that certs.sh of tools/live made.
-LIBMETSUWAN is the library. The request of such an operation is that of the call, byte for byte.
+Each pair is NAME.call, the words of a call on a line each, and NAME.response in FOLDER, with the
+same call as any operation in NAME.operation: its name, its version and its payload in JSON, on
+three lines. The responses are those of the fake servers of tools/live; CERTS is a folder that
+certs.sh of tools/live made. LIBMETSUWAN is the library. The request of such an operation is that of
+the call, byte for byte.
 """
 import json
 import pathlib
@@ -12,19 +13,21 @@ import sys
 from typing import Any, Dict, List, Tuple
 
 TOP = pathlib.Path(__file__).resolve().parents[4]
-sys.path[:0] = [str(TOP / 'tools' / 'live'), str(TOP / 'clients' / 'python')]
+sys.path[:0] = [str(TOP / 'tools' / 'live')]
 import fakes                                    # noqa: E402
 import objects                                  # noqa: E402
 import trees                                    # noqa: E402
 import ttlv                                     # noqa: E402
-from metsuwan.library import Library, Operation  # noqa: E402
+from library import Library, Operation          # noqa: E402
 
 ONE = b'1'
 IDENTIFIED = ttlv.identifier('1')
 OPERATIONS = {'activate': 0x12, 'revoke': 0x13, 'destroy': 0x14}
 NAMES = {1: 'Create', 2: 'CreateKeyPair', 8: 'Locate', 0x0A: 'Get', 0x0B: 'GetAttributes',
          0x0E: 'ModifyAttribute', 0x12: 'Activate', 0x13: 'Revoke', 0x14: 'Destroy', 0x18: 'Query',
-         0x1E: 'DiscoverVersions', 0x21: 'Sign', 0x25: 'RNGRetrieve'}
+         0x1E: 'DiscoverVersions', 0x1F: 'Encrypt', 0x21: 'Sign', 0x23: 'MAC', 0x25: 'RNGRetrieve',
+         0x27: 'Hash'}
+Pairs = Dict[str, Tuple[List[str], bytes]]
 
 
 def attribute(name: str, *value: bytes) -> bytes:
@@ -46,25 +49,33 @@ def attributes() -> List[bytes]:
     ]
 
 
-def answers(certs: str) -> Dict[str, Tuple[bytes, bytes]]:
+def answers(certs: str) -> Pairs:
     """Calls, and a good answer to each."""
     response = ttlv.response
     made = {
-        'query': (b'query', fakes.GOOD_QUERY),
-        'create_rsa': (b'create-rsa 2048 a b', response(2, fakes.KEYS)),
-        'create_aes': (b'create-aes 256 n',
+        'query': (['query'], fakes.GOOD_QUERY),
+        'create_rsa': (['create-rsa', '2048', '50% of a=b', '-'], response(2, fakes.KEYS)),
+        'create_aes': (['create-aes', '256', ''],
                        response(1, [ttlv.enumeration(0x420057, 2), IDENTIFIED])),
-        'rng': (b'rng 4', response(0x25, [ttlv.octets(0x4200C2, b'\xde\xad\xbe\xef')])),
-        'sign': (b'sign 1 0102',
+        'rng': (['rng', '4'], response(0x25, [ttlv.octets(0x4200C2, b'\xde\xad\xbe\xef')])),
+        'sign': (['sign', '1', '0102'],
                  response(0x21, [IDENTIFIED, ttlv.octets(0x4200C3, b'signature')])),
-        'rename': (b'rename 1 new', response(0x0E, [IDENTIFIED, attributes()[0]])),
-        'locate': (b'locate n', response(8, [IDENTIFIED, ttlv.identifier('2')])),
-        'attributes': (b'attributes 1', response(0x0B, [IDENTIFIED, *attributes()])),
-        'discover': (b'discover', response(0x1E, [ttlv.structure(
+        'rename': (['rename', '1', 'new'], response(0x0E, [IDENTIFIED, attributes()[0]])),
+        'locate': (['locate', 'n=%41'], response(8, [IDENTIFIED, ttlv.identifier('2')])),
+        'locate_where': (['locate', 'where', 'name=50% = a', 'state=Active'],
+                         response(8, [IDENTIFIED])),
+        'attributes': (['attributes', '1'], response(0x0B, [IDENTIFIED, *attributes()])),
+        'discover': (['discover'], response(0x1E, [ttlv.structure(
             0x420069, ttlv.integer(0x42006A, 1), ttlv.integer(0x42006B, 2))])),
+        'encrypt': (['encrypt', '1', '00FF', 'mode=CBC', 'iv=000102'],
+                    response(0x1F, [IDENTIFIED, ttlv.octets(0x4200C2, b'\0data')])),
+        'mac': (['mac', '1', '', 'algorithm=HMAC_SHA256'],
+                response(0x23, [IDENTIFIED, ttlv.octets(0x4200C6, b'code')])),
+        'hash': (['hash', '616263', 'hash=SHA_256'],
+                 response(0x27, [ttlv.octets(0x4200C2, b'digest')])),
     }
     for name, number in OPERATIONS.items():
-        made[name] = (name.encode() + b' 1', response(number, [IDENTIFIED]))
+        made[name] = ([name, '1'], response(number, [IDENTIFIED]))
     for path in sorted(pathlib.Path(certs, 'objects').glob('*.der')):
         kind, form = path.stem.split('.')
         kind = {'EC': 'PrivateKey'}.get(kind, kind)  # certs.sh names a key on a curve so
@@ -72,12 +83,12 @@ def answers(certs: str) -> Dict[str, Tuple[bytes, bytes]]:
         if kind != 'Certificate':
             value = ttlv.structure(0x420045, ttlv.octets(0x420043, value))
         number, body = objects.object_of(kind, form, value)
-        made['get.' + path.stem] = (b'get 1', response(0x0A, [number, IDENTIFIED, body]))
+        made['get.' + path.stem] = (['get', '1'], response(0x0A, [number, IDENTIFIED, body]))
     return made
 
 
-def all_pairs(certs: str) -> Dict[str, Tuple[bytes, bytes]]:
-    """The answers, a failure of each call, the same by `raw`, and odd ones."""
+def all_pairs(certs: str) -> Pairs:
+    """The answers, a failure of each call, the same by `raw` where that has it, and odd ones."""
     library = Library()
     pairs = answers(certs)
     for name, (call, _) in list(pairs.items()):
@@ -86,20 +97,21 @@ def all_pairs(certs: str) -> Dict[str, Tuple[bytes, bytes]]:
         failed = ttlv.response(operation, None, status=ttlv.FAILED, reason=1,
                                message='why "not"?\n')
         pairs['failed.' + name] = (call, failed)
-        pairs['raw.' + name] = (b'raw ' + request.hex().encode(), pairs[name][1])
-    for name in ('sign', 'failed.activate', 'get.Certificate.X509'):
+        if name not in ('encrypt', 'mac', 'hash'):
+            pairs['raw.' + name] = (['raw', request.hex()], pairs[name][1])
+    for name in ('sign', 'failed.activate', 'get.Certificate.X509', 'encrypt', 'failed.mac'):
         call, answer = pairs[name]
         pairs['identified.' + name] = (call, ttlv.identified(answer, trees.ID))
     key = pairs['sign'][1]
-    pairs['other_object'] = (b'sign mine 00', key)
-    pairs['reason'] = (b'activate 1', ttlv.response(0x12, None, status=ttlv.FAILED, reason=0x7FFF,
-                                                    message='m'))
-    pairs['levels'] = (b'query', ttlv.response(0x18, [ttlv.nested(58)]))
-    pairs['empty'] = (b'query', b'')
+    pairs['other_object'] = (['sign', 'mine', '00'], key)
+    pairs['reason'] = (['activate', '1'],
+                       ttlv.response(0x12, None, status=ttlv.FAILED, reason=0x7FFF, message='m'))
+    pairs['levels'] = (['query'], ttlv.response(0x18, [ttlv.nested(58)]))
+    pairs['empty'] = (['query'], b'')
     return pairs
 
 
-def operation_of(library: Library, call: bytes) -> Operation:
+def operation_of(library: Library, call: List[str]) -> Operation:
     """A call of words as one of any operation."""
     request: Any = library.request(call)
     minor = request[request.index(bytes.fromhex('42006B02')) + 11]
@@ -116,9 +128,10 @@ def operation_of(library: Library, call: bytes) -> Operation:
 def main() -> None:
     folder, library = pathlib.Path(sys.argv[1]), Library()
     for name, (call, response) in all_pairs(sys.argv[2]).items():
-        (folder / (name + '.call')).write_bytes(call)
+        asked = operation_of(library, call)
+        (folder / (name + '.call')).write_bytes('\n'.join(call).encode())
         (folder / (name + '.response')).write_bytes(response)
-        (folder / (name + '.operation')).write_bytes(b'\n'.join(operation_of(library, call)))
+        (folder / (name + '.operation')).write_bytes(b'\n'.join(asked[:3]))
 
 
 if __name__ == '__main__':

@@ -4,10 +4,10 @@
 #   clients/c/tests/fuzz/fuzz_library.sh [--seed N] [--library FILE] ROUNDS
 #
 # The library is built with no proof and with its own code instrumented (two to ten minutes). Then fuzz.c makes
-# ROUNDS rounds of the six calls, with bytes changed at random in buffers of exactly the size that is told; trees.py makes a
+# ROUNDS rounds of its calls, with bytes changed at random in buffers of exactly the size that is told; trees.py makes a
 # tenth of ROUNDS, with responses that are well formed and changed in structure, and compares kmip_value with the JSON, and
-# the answer to any operation with the response's payload; and each line of JSON is read by Python. What is found ends it with
-# a status other than 0.
+# the answer to any operation, and the plain one, with the payload; and each line of JSON is read by Python. What is found
+# ends it with a status other than 0.
 #
 #   --seed N         another number gives other rounds; 1 if it is not given
 #   --library FILE   takes this libkmip_c.a, which `tools/build.py --unproved --sanitize library kmip_c FILE` made before

@@ -9,24 +9,22 @@
 What is checked of a line: it is one line of strict JSON in UTF-8, without a name twice, with the
 members that its status wants. What is checked of the library: kmip_value at each path of an answer
 gives what the JSON has there, and nothing at paths that it has not; the answer to any operation
-is the payload of the response: as the payload of a request it gives the same bytes; and with a
-Unique Batch Item ID the answer is the same, but where the response is to another item. LIBMETSUWAN
-is the library.
+is the payload of the response: as the payload of a request it gives the same bytes; the plain
+answer has the same values by the names of their tags; and with a Unique Batch Item ID the answer is
+the same, but where the response is to another item. LIBMETSUWAN is the library.
 """
 import collections
-import ctypes
 import json
-import os
 import pathlib
 import random
 import re
 import sys
-from typing import Any, Iterator, List, Optional, Tuple
+from typing import Any, Dict, Iterator, List, Optional, Tuple
 
 TOP = pathlib.Path(__file__).resolve().parents[4]
-sys.path[:0] = [str(TOP / 'tools' / 'live'), str(TOP / 'clients' / 'python')]
+sys.path[:0] = [str(TOP / 'tools' / 'live')]
 import ttlv                                                     # noqa: E402
-from metsuwan.library import GRAMMAR, Library, Operation  # noqa: E402
+from library import GRAMMAR, Library, Operation, Words, known   # noqa: E402
 
 Item = List[Any]                                # tag, type, and bytes or a list of items
 TYPES = ['', 'Structure', 'Integer', 'LongInteger', 'BigInteger', 'Enumeration', 'Boolean',
@@ -219,36 +217,71 @@ def leaves(value: Any, path: str = '') -> Iterator[Tuple[str, Any]]:
         yield path, value
 
 
-class Values:
-    """kmip_value of the library."""
+def items_by_path(item: Any, path: str = '') -> Iterator[Tuple[str, Any]]:
+    """The items of a tree below its root that are no structure, by their paths of tags."""
+    counts: 'collections.Counter[str]' = collections.Counter()
+    for part in item['value']:
+        below = '%s%s.%d' % (path + '.' if path else '', part['tag'], counts[part['tag']])
+        counts[part['tag']] += 1
+        if isinstance(part['value'], list):
+            yield from items_by_path(part, below)
+        else:
+            yield below, part
 
-    def __init__(self) -> None:
-        library = ctypes.CDLL(os.environ['LIBMETSUWAN'])
-        text, size = ctypes.c_char_p, ctypes.c_size_t
-        self._value = library.kmip_value
-        self._value.restype = ctypes.c_int64
-        self._value.argtypes = [text, size, text, size, text, size, ctypes.c_bool, text, size]
 
-    def value(self, call: bytes, response: bytes, path: bytes, hex_: bool) -> Optional[bytes]:
-        into = ctypes.create_string_buffer(1 << 20)
-        length: int = self._value(call, len(call), response, len(response), path, len(path), hex_,
-                                  into, 1 << 20)
-        if length not in range(-3, 1 << 20) or length == -1:
-            found('kmip_value returns', length)
-        return None if length < 0 else into.raw[:length]
+def shown(value: Any) -> bytes:
+    """A value as kmip_value writes it as text."""
+    return (json.dumps(value) if isinstance(value, (bool, int)) else str(value)).encode()
 
-    def check(self, call: bytes, response: bytes, answer: Any) -> None:
+
+def spelled(digits: Any) -> Optional[bytes]:
+    """The bytes that a string of hex digits stands for."""
+    is_hex = isinstance(digits, str) and re.fullmatch('([0-9A-Fa-f]{2})*', digits)
+    return bytes.fromhex(digits) if is_hex else None
+
+
+def check_value(library: Library, line: bytes, path: str, text: bytes,
+                octets: Optional[bytes]) -> None:
+    if library.value(line, path, False) != text:
+        found('another value at', path, line)
+    if known(library.value(line, path, True)) != octets:
+        found('other bytes at', path, line)
+
+
+def check_values(library: Library, line: bytes, answer: Any) -> None:
+    """The values of an answer, which is a tree where it has a tag; none of what is no object."""
+    if not isinstance(answer, dict):
+        pass
+    elif 'tag' in answer:
+        for path, item in items_by_path(answer) if isinstance(answer['value'], list) else []:
+            has_bytes = item.get('type') in ('ByteString', 'BigInteger')
+            octets = spelled(re.sub('^0x', '', item['value'])) if has_bytes else None
+            check_value(library, line, path, shown(item['value']), octets)
+    else:
         for path, value in leaves(answer):
-            shown = json.dumps(value) if isinstance(value, (bool, int)) else value
-            if self.value(call, response, path.encode(), False) != shown.encode():
-                found('another value at', path, call, response.hex())
-            hexed = isinstance(value, str) and re.fullmatch('([0-9A-Fa-f]{2})*', value)
-            raw = bytes.fromhex(value) if hexed else None
-            if self.value(call, response, path.encode(), True) != raw:
-                found('other bytes at', path, call, response.hex())
-        for path in ('', 'answer', 'no_such', '0'):
-            if self.value(call, response, path.encode(), False) is not None:
-                found('a value at', path, call, response.hex())
+            check_value(library, line, path, shown(value), spelled(value))
+    for path in ('', 'answer', 'no_such', '0'):
+        if known(library.value(line, path, False)) is not None:
+            found('a value at', path, line)
+
+
+def plain_name(tag: str) -> str:
+    """The name of a member of a plain answer."""
+    if tag.startswith('0x'):
+        return tag
+    parts = re.sub('(?<=[a-z0-9])(?=[A-Z])|(?<=[A-Z0-9])(?=[A-Z][a-z])', '_', tag)
+    return re.sub('_+', '_', parts).lower()
+
+
+def plain_of(item: Any) -> Any:
+    """What a plain answer has for an item of a tree."""
+    value = item['value']
+    if not isinstance(value, list):
+        return re.sub('^0x', '', value) if item.get('type') == 'BigInteger' else value
+    members: Dict[str, List[Any]] = {}
+    for part in value:
+        members.setdefault(plain_name(part['tag']), []).append(plain_of(part))
+    return {name: made[0] if len(made) == 1 else made for name, made in members.items()}
 
 
 def has_empty_identifier(item: Any) -> bool:
@@ -296,8 +329,8 @@ def is_of_other_item(tree: List[Item]) -> bool:
     return OPERATION in tags or sole(STATUS, item[2]) != [STATUS, 5, b'\0\0\0\1']
 
 
-def check_identified(asked: Operation, tree: List[Item], plain: Tuple[int, str],
-                     identified: Tuple[int, str]) -> None:
+def check_identified(asked: Operation, tree: List[Item], plain: Tuple[int, bytes],
+                     identified: Tuple[int, bytes]) -> None:
     """That the answer to an operation with the ID is that of the same without one, or lost."""
     known = json.loads(plain[1])
     is_read = known.get('error') not in ('DeserializeError', 'ResponseReadError')
@@ -309,39 +342,45 @@ def check_identified(asked: Operation, tree: List[Item], plain: Tuple[int, str],
         found('an answer to another item', asked, written(tree).hex(), identified)
 
 
-def try_tree(library: Library, values: Values, call: bytes, asked: Operation,
+def try_tree(library: Library, call: Words, asked: Operation,
              tree: List[Item]) -> Iterator[Tuple[str, int]]:
     """The statuses of a response to a call of words, and to one of any operation."""
     response = written(tree)
     status, line = library.answer(call, response)
     yield 'words', status
-    line_object = check_line(status, line.encode('utf-8'))
+    line_object = check_line(status, line)
     if status == 0:
-        values.check(call, response, line_object['answer'])
-    elif values.value(call, response, b'unique_identifier', False) is not None:
+        check_values(library, line, line_object['answer'])
+    elif known(library.value(line, 'text', False)) is not None:
         found('a value of an error', call, response.hex())
     status, line = library.answer(asked, response)
     yield 'operation', status
-    line_object = check_line(status, line.encode('utf-8'))
+    line_object = check_line(status, line)
+    plain = library.answer(asked._replace(is_plain=True), response)
     if status == 0:
         check_payload(library, asked, line_object['answer'], tree)
+        check_values(library, line, line_object['answer'])
+        if check_line(*plain) != {'answer': plain_of(line_object['answer'])}:
+            found('another plain answer', asked, line, plain)
+    elif plain != (status, line):
+        found('another plain error', asked, line, plain)
     identified = library.answer(asked._replace(item_id=ID), response)
     yield 'identified', identified[0]
-    check_line(identified[0], identified[1].encode('utf-8'))
+    check_line(*identified)
     check_identified(asked, tree, (status, line), identified)
 
 
 def try_trees(folder: str, seed: int, rounds: int) -> None:
-    library, values, changes = Library(), Values(), Changes(seed)
+    library, changes = Library(), Changes(seed)
     corpus = []
     for path in sorted(pathlib.Path(folder).glob('*.call')):
         asked = Operation(*path.with_suffix('.operation').read_bytes().split(b'\n'))
         tree = parsed(path.with_suffix('.response').read_bytes())
-        corpus.append((path.read_bytes(), asked, tree))
+        corpus.append((path.read_text(encoding='utf-8').split('\n'), asked, tree))
     statuses: 'collections.Counter[Tuple[str, int]]' = collections.Counter()
     for _ in range(rounds):
         call, asked, tree = changes.random.choice(corpus)
-        statuses.update(try_tree(library, values, call, asked, changes.changed(tree)))
+        statuses.update(try_tree(library, call, asked, changes.changed(tree)))
     print('trees:', dict(sorted(statuses.items())))
 
 

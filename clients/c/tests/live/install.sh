@@ -19,7 +19,7 @@ names_of() { # LIBRARY: what can be linked with, on one line
 }
 for library in libmetsuwan libmetsuwan_tls; do
     soname=$(readelf -d "$lib/$library.so" | sed -n 's/.*soname: \[\(.*\)\]/\1/p')
-    [[ $soname == "$library.so.1" && -e $lib/$soname && -e $lib/$library.a ]]
+    [[ $soname == "$library.so.2" && -e $lib/$soname && -e $lib/$library.a ]]
     verdict "$library has a SONAME, and is there by it"
     readelf -d "$lib/$library.so" | grep -q 'Flags: NOW'
     verdict "$library has its functions bound at the start"
@@ -31,7 +31,7 @@ done
     'answer contents_len operation_answer operation_refusal operation_request refusal request value version' ]]
 verdict 'libmetsuwan.so has its nine calls, and no other names'
 [[ $(names_of libmetsuwan_tls.so | sed 's/kmip_//g') == \
-    'abandon batch_answer batch_call batch_count batch_free batch_new batch_operation batch_send batch_words bytes call call_array call_words close connect error_kind line open operation pem register_certificate register_private_key register_public_key register_secret text was_sent word' ]]
+    'abandon batch_answer batch_array batch_call batch_count batch_free batch_new batch_operation batch_send batch_words bytes call call_array call_words close connect error_kind line open operation pem register_certificate register_private_key register_public_key register_secret text was_sent' ]]
 verdict 'libmetsuwan_tls.so has the calls of its header, and no other names'
 version=$(sed -n 's/^VERSION := //p' "$top/clients/c/Makefile")
 [[ $(pkg-config --modversion metsuwan metsuwan_tls | sort -u) == "$version" ]]

@@ -1,6 +1,6 @@
 # shellcheck shell=bash
-# Settings, words, a name that is not found in time, values of items, memory that runs out, and
-# large answers.
+# Settings, a name that is not found in time, values of items, memory that runs out, and large
+# answers.
 look_for_sanitizers
 test_build settings "${sanitized[@]}"
 fake ends

@@ -7,6 +7,7 @@ FOLDER has the objects of certs.sh; what was got of them is left in the folder t
 import hashlib
 import hmac
 import pathlib
+import subprocess
 import sys
 import time
 from typing import Any, Callable, List, Type
@@ -100,6 +101,41 @@ def typed(kmip: Client) -> None:
     derived = kmip.derive_key(base, 'HMAC', algorithm='AES', length=128, data=b'label', salt=b's',
                               hash='SHA256', usage='Encrypt,Decrypt')
     check(len(kmip.get(derived).key_material) == 16, 'derive_key')
+
+
+def words(kmip: Client) -> None:
+    """Calls of the table by words. What comes of them is what openssl and hashlib make."""
+    secret, iv, data = bytes(range(32)), bytes(range(16)), b'\0hello\0 %2D=\xff' * 7
+    key = kmip.register('symmetric', secret, format='Raw', algorithm='AES', length=256,
+                        usage='Encrypt,Decrypt')
+    kmip.activate(key)
+    how = {'mode': 'CBC', 'padding': 'PKCS5', 'algorithm': 'AES'}
+    sealed = kmip.call('encrypt', key, data, iv=iv, **how)
+    wanted = subprocess.run(
+        ['openssl', 'enc', '-aes-256-cbc', '-K', secret.hex(), '-iv', iv.hex()], input=data,
+        stdout=subprocess.PIPE, check=True).stdout
+    check(bytes.fromhex(sealed['data']) == wanted, 'encrypt by words does as openssl')
+    opened = kmip.call('decrypt', key, wanted, iv=iv, **how)
+    check(opened == {'unique_identifier': key, 'data': data.hex().upper()}, 'and so does decrypt')
+    typed_words = [word + '=' + name for word, name in how.items()]
+    opened = kmip.call_texts('decrypt', key, wanted.hex(), *typed_words, 'iv=' + iv.hex())
+    check(bytes.fromhex(opened['data']) == data, 'also where the words were typed')
+    batch = kmip.batch().call('decrypt', key, wanted, iv=iv, **how).call('decrypt', key, b'')
+    answer, error = batch.send()
+    check(answer == {'unique_identifier': key, 'data': data.hex().upper()}, 'also in a batch')
+    check(isinstance(error, KmipError), 'in which another one is refused')
+    name = NAME + ', 50% of a=b, %2D, - '
+    made = kmip.call('create-key', 'AES', 128, name, usage=['Encrypt'])
+    check(kmip.locate(name) == [made['unique_identifier']], 'a name is as it was given')
+    base = kmip.register_secret(b'pass\0word', usage='DeriveKey')
+    kmip.activate(base)
+    derived = kmip.call('derive-key', base, 'PBKDF2', hash='SHA256', salt=b'\0salt', iterations=99,
+                        length=256, algorithm='AES', usage=['Encrypt', 'Decrypt'])
+    wanted = hashlib.pbkdf2_hmac('sha256', b'pass\0word', b'\0salt', 99)
+    check(kmip.get(derived['unique_identifier']).key_material == wanted,
+          'derive-key does as hashlib')
+    listed = kmip.call('attribute-list', key)['attribute_name']
+    check('Cryptographic Length' in listed, 'attribute-list has a list')
 
 
 def keys(kmip: Client, objects: pathlib.Path) -> None:
@@ -206,6 +242,7 @@ def main() -> None:
         keys(kmip, objects)
         signatures(kmip)
         typed(kmip)
+        words(kmip)
         encryption(kmip)
         dates(kmip)
         certificates(kmip, objects)

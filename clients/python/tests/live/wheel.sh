@@ -18,6 +18,14 @@ wheel() { # what pip says is in $said
 }
 ! wheel && grep -q LIBMETSUWAN "$said" && [[ ! -e $(echo metsuwan-*.whl) ]]
 verdict 'no wheel without the library, which is said'
+if type -P gcc >/dev/null; then
+    gcc -shared -fPIC -x c - -o old.so <<<'const char *kmip_version(void) { return "1.0, proved"; }'
+    rm -rf source && cp -r "$top/clients/python" source
+    ! LIBMETSUWAN=$work/old.so wheel && grep -q 'old\.so is libmetsuwan 1\.0' "$said" && [[ ! -e $(echo metsuwan-*.whl) ]]
+    verdict 'no wheel with a library of another version, which is said'
+else
+    echo 'skipped python: there is no gcc (Debian: apt-get install gcc): a library of another version is not tried'
+fi
 rm -rf source && cp -r "$top/clients/python" source
 LIBMETSUWAN=$built/libmetsuwan.so wheel
 verdict 'a wheel is built'

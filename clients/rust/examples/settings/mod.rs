@@ -29,7 +29,7 @@ impl Display for Failure {
 impl std::error::Error for Failure {}
 
 /// The line of an error.
-pub fn line(kind: &str, text: &str) -> Json {
+pub fn error_line(kind: &str, text: &str) -> Json {
     let members = [("error", kind), ("text", text)];
     Json::Object(members.map(|(name, text)| (name.into(), Json::text(text))).into())
 }
@@ -41,7 +41,7 @@ pub fn say(line: &impl Display) {
 
 /// The failure of words that are none.
 pub fn wrong(text: &str) -> Failure {
-    Failure(line("GrammarError", text), 2)
+    Failure(error_line("GrammarError", text), 2)
 }
 
 /// The arguments of the program.

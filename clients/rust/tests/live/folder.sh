@@ -13,6 +13,11 @@ for folder in . "$work"; do
     says 'it is said what is wrong' 'LIBMETSUWAN_DIR has to be the absolute path .*libmetsuwan\.a is no such file'
 done
 rm "$run/rust/source/libmetsuwan.a"
+# A library of another version, whose calls have other arguments.
+mkdir other && sed 's/2\.\([0-9]*, not proved\)/1.\1/' "$built/libmetsuwan.a" >other/libmetsuwan.a
+! builds "$work/other"
+verdict 'the crate is not built with a library of another version'
+says 'which is said' 'other/libmetsuwan\.a is not of version 2\.x'
 builds "$built"
 verdict 'it is, with the folder of the library'
 if compgen -G '/usr/local/lib/libmetsuwan.a' >"$said" || compgen -G '/usr/lib*/libmetsuwan.a' >"$said"; then

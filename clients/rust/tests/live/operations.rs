@@ -6,11 +6,12 @@
 mod settings;
 
 use metsuwan::{AttributeValue, CryptographicAlgorithm, CryptographicUsageMask as Usage};
-use metsuwan::{Create, Error, Get, Item, TlsClient, Value};
+use metsuwan::{Create, Error, Get, Item, TlsClient, Value, Word};
 use metsuwan::{HashingAlgorithm, PaddingMethod, Register, Sign};
 use openssl::hash::MessageDigest;
 use openssl::pkey::PKey;
 use openssl::sign::Signer;
+use openssl::symm::{encrypt, Cipher};
 use settings::Failure;
 use std::path::Path;
 use std::process::ExitCode;
@@ -103,6 +104,9 @@ fn keys(client: &TlsClient, objects: &Path, folder: &Path) -> Outcome<()> {
     let secret = PKey::hmac(&secret)?;
     let wanted = Signer::new(MessageDigest::sha256(), &secret)?.sign_oneshot_to_vec(b"hello")?;
     check(answer.bytes_at("MACData")? == wanted, "a MAC is that of the key");
+    let words = [Word::Text(&made), Word::Bytes(b"hello")];
+    let mac = client.call("mac", &words)?.bytes_at("mac_data")?;
+    check(mac == wanted, "so is the MAC by words");
     let der = std::fs::read(objects.join("EC.PKCS8.der"))?;
     let key = Key {
         tag: "PrivateKey",
@@ -138,6 +142,11 @@ fn signatures(client: &TlsClient) -> Outcome<()> {
         let answer = client.do_operation("SignatureVerify", "1.2", items)?;
         let is_it = answer.name_at("ValidityIndicator")? == wanted;
         check(is_it, &format!("the server says of a signature: {wanted}"));
+        let words = [Word::Text(&public), Word::Bytes(data), Word::Bytes(&signature)];
+        let how = [("padding", "PSS"), ("hash", "SHA_512"), ("algorithm", "RSA")];
+        let answer = client.call_with("verify", &words, &how)?;
+        let is_it = answer.text_at("validity_indicator")? == wanted;
+        check(is_it, &format!("it says so by words: {wanted}"));
     }
     Ok(())
 }
@@ -163,6 +172,21 @@ fn encryption(client: &TlsClient) -> Outcome<()> {
     let sealed = data_of("Encrypt", b"hello")?;
     let opened = data_of("Decrypt", &sealed)?;
     check(sealed.len() == 16 && opened == b"hello", "what was encrypted is decrypted");
+    let how = [
+        ("mode", "CBC"),
+        ("padding", "PKCS5"),
+        ("algorithm", "AES"),
+        ("iv", "00000000000000000000000000000000"),
+    ];
+    let by_words = |name, data| {
+        let words = [Word::Text(&key), Word::Bytes(data)];
+        client.call_with(name, &words, &how)?.bytes_at("data")
+    };
+    let secret = client.get_key(&key)?.key_material()?;
+    let wanted = encrypt(Cipher::aes_256_cbc(), &secret, Some(&[0; 16]), b"\0hello\0")?;
+    check(by_words("encrypt", b"\0hello\0")? == wanted, "data is encrypted by words as by openssl");
+    check(by_words("decrypt", &wanted)? == b"\0hello\0", "and decrypted");
+    check(by_words("encrypt", b"hello")? == sealed, "as by the operation");
     refused_wrapping(client, &key)
 }
 

@@ -8,3 +8,8 @@ sed -nE 's/^test ([A-Za-z0-9_:]+) \.\.\. ok$/ok      rust: \1/p
 # Those that failed have said so.
 ((status == 0)) || { ((status == 101)) && grep -q '^FAILED ' tests; }
 verdict 'the tests of the crate are run'
+# The calls of the table are those of the program.
+"$built/kmip_call" --operations | sed -nE 's/^([a-z-]+) .*/\1/p' >names
+[[ -s names ]] && sed -nE '/^const TABLE/,/^\];/s/^    \("([a-z-]+)".*/\1/p' "$top/clients/rust/src/word.rs" |
+    diff names - >"$said" 2>&1
+verdict 'the calls of the table are those of kmip_call'

@@ -1,5 +1,5 @@
 # shellcheck shell=bash
-# Any operation, by its name and a payload in JSON, and whole messages in JSON.
+# Any operation, by its name and a payload in JSON or XML, and whole messages in JSON or XML.
 payload='{"tag":"RequestPayload","value":[{"tag":"UniqueIdentifier","type":"TextString","value":"my key"}]}'
 answer='^\{"answer":\{"tag":"ResponsePayload","value":\[\{"tag":"UniqueIdentifier","type":"TextString","value":"my key"\}\]\}\}$'
 printf '%s\n' "$payload" >'a payload.json'
@@ -39,6 +39,45 @@ printf '%s\n' "$message" >message.json
 call_is 'a whole message' 0 message "$message"
 says 'its answer is the whole response' '^\{"answer":\{"tag":"ResponseMessage","value":\[\{"tag":"ResponseHeader",.*"my key"'
 call_is 'the message of a file' 0 message @message.json
+# OASIS's use cases 3.1.1 and 3.1.3, and Query, in the XML of its encodings
+header() { # MINOR-VERSION
+    printf '<RequestMessage><RequestHeader><ProtocolVersion><ProtocolVersionMajor type="Integer" value="1"/>'
+    printf '<ProtocolVersionMinor type="Integer" value="%s"/></ProtocolVersion>' "$1"
+    printf '<BatchCount type="Integer" value="1"/></RequestHeader><BatchItem>'
+}
+attribute() { # NAME TYPE VALUE
+    printf '<Attribute><AttributeName type="TextString" value="%s"/>' "$1"
+    printf '<AttributeValue type="%s" value="%s"/></Attribute>' "$2" "$3"
+}
+{
+    printf '<?xml version="1.0" encoding="UTF-8"?>\n<!-- a key of 128 bits -->\n'
+    header 0
+    printf '<Operation type="Enumeration" value="Create"/><RequestPayload>'
+    printf '<ObjectType type="Enumeration" value="SymmetricKey"/><TemplateAttribute>'
+    attribute 'Cryptographic Algorithm' Enumeration AES
+    attribute 'Cryptographic Length' Integer 128
+    attribute 'Cryptographic Usage Mask' Integer 'Decrypt Encrypt'
+    printf '</TemplateAttribute></RequestPayload></BatchItem></RequestMessage>\n'
+} >Create.xml
+{
+    header 0
+    printf '<Operation type="Enumeration" value="0x0000000A"/><RequestPayload>'
+    printf "<UniqueIdentifier value='my key' type='TextString'/></RequestPayload></BatchItem></RequestMessage>"
+} >Get.xml
+{
+    header 2
+    printf '<Operation type="Enumeration" value="Query"/><RequestPayload>'
+    printf '<QueryFunction type="Enumeration" value="QueryOperations"/></RequestPayload></BatchItem></RequestMessage>'
+} >Query.xml
+for name in Create Get Query; do
+    call_is "$name as XML" 0 message "@$name.xml"
+    says 'the response answers it' '"tag":"Operation","type":"Enumeration","value":"'"$name"'"'
+done
+xml='<RequestPayload><UniqueIdentifier type="TextString" value="my key"/></RequestPayload>'
+call_is 'a payload of XML' 0 operation Archive "$xml"
+says 'its answer is that of the same in JSON' "$answer"
+call_is 'XML without its end' 2 operation Archive "${xml%?}"
+says 'the place is said' '"GrammarError".*the payload: line 1, column '
 call_is 'a payload in the place of a message' 2 message "$payload"
 says 'what is wrong' '"GrammarError".*the message: .*no Structure with the tag RequestMessage'
 call_is 'a message and a word more' 2 message "$message" more

@@ -5,9 +5,8 @@ script_is 'a key that encrypts and decrypts by words' 0 '
     open
     aes=$(kmip_field unique_identifier create-aes 256 "sealed by words") && kmip activate "$aes"
     options=(mode=CBC padding=PKCS5 algorithm=AES iv=000102030405060708090A0B0C0D0E0F)
-    of() { kmip_field "value[] | select(.tag == \"Data\").value" "$@"; }
-    sealed=$(of encrypt "$aes" 68656C6C6F "${options[@]}") && echo "sealed $sealed"
-    opened=$(of decrypt "$aes" "$sealed" "${options[@]}") && echo "opened $opened"
+    sealed=$(kmip_field data encrypt "$aes" 68656C6C6F "${options[@]}") && echo "sealed $sealed"
+    opened=$(kmip_field data decrypt "$aes" "$sealed" "${options[@]}") && echo "opened $opened"
     kmip encrypt "$aes" 68656C6C6F mode=NONE; echo "status $?"
     kmip_close'
 says 'one block of 16 bytes' '^sealed [0-9A-Fa-f]{32}$'
@@ -29,9 +28,9 @@ END
 printf hello | openssl dgst -sha256 -mac HMAC -macopt "hexkey:$hex" | sed 's/.*= //' >theirs.hex
 script_is 'a key that makes codes by words' 0 '
     open
-    of() { kmip_field "value[] | select(.tag == \"$1\").value" "${@:2}"; }
-    hmac=$(of UniqueIdentifier operation Register @register.json) && kmip activate "$hmac"
-    ours=$(of MACData mac "$hmac" 68656C6C6F algorithm=HMAC_SHA256)
+    id="value[] | select(.tag == \"UniqueIdentifier\").value"
+    hmac=$(kmip_field "$id" operation Register @register.json) && kmip activate "$hmac"
+    ours=$(kmip_field mac_data mac "$hmac" 68656C6C6F algorithm=HMAC_SHA256)
     echo "code ${ours,,}"
     kmip_close'
 says 'the code is that of openssl' "^code $(<theirs.hex)\$"

@@ -1,5 +1,6 @@
 # shellcheck shell=bash
-# kmip_call makes the calls of its table of operations, which it lists by --operations, as `operation` with their payloads.
+# kmip_call makes the calls of its table of operations, which it lists by --operations: with the requests of `operation`, and
+# plain answers.
 request() { # WORD..
     "$built/kmip_call" "$@" </dev/null 2>"$said"
 }
@@ -21,6 +22,8 @@ same 'an Archive' "$id" Archive archive 5
 printf hello >data.bin
 same 'bytes of a file' "$id,$data" Encrypt encrypt 5 @data.bin
 same 'bytes of a descriptor' "$id,$data" Encrypt encrypt 5 @3 3<data.bin
+printf '\253\315' >code.bin
+same 'bytes of two files' "$id,$data,{\"tag\":\"MACData\",\"type\":\"ByteString\",\"value\":\"ABCD\"}" MACVerify mac-verify 5 @data.bin @code.bin
 refused() { # WHAT REGEX WORD..
     local status
     [[ -z $(request "${@:3}" | od -An -tx1) ]]
@@ -71,4 +74,7 @@ printf 'not as the table has it:%s\n' "$differs" >"$said"
 verdict "the client for bash has the table's calls, with their words and options"
 fake good
 script_is 'an Encrypt by words' 0 'open; kmip encrypt "my key" 68656C6C6F mode=CBC padding=PKCS5; kmip_close'
-says 'its answer is the payload of the response' '^\{"answer":\{"tag":"ResponsePayload"'
+says 'its answer is plain JSON' '^\{"answer":\{"unique_identifier":"my key"\}\}$'
+script_is 'a code that is verified, of a file' 0 'open; kmip mac-verify "my key" 68656C6C6F @code.bin; kmip_close'
+script_is 'a field of a plain answer' 0 'open; kmip_field unique_identifier hash 68656C6C6F hash=SHA256; kmip_close'
+says 'is written' '^1$'

@@ -4,6 +4,7 @@ use Rattle.kmip_words.specs.Exchange.{Settings}
 use Rattle.kmip_operations.specs.Calls.{request_of}
 use Rattle.kmip_operations.specs.Answers.{operation_ending, operation_json_line}
 use Rattle.kmip_exports.specs.Exports.{room_with}
+use Rattle.kmip_c.specs.Operations.{form_of}
 use Rattle.kmip_c.proofs.Operations.{operation_answered}
 use Rattle.kmip_c.proofs.kmip_operation_answer.Goals as goal
 
@@ -15,14 +16,14 @@ returns-in-Ok-clause-answer c = λ some.
     let ending = c.in-Ok.ensures.ending ∙ ap (λ (settings : Settings).
     operation_ending settings (request_of c.in-Ok-Some.call) c.args.response.now)
     c.new-settings.ensures in
-    let line = c.in-Ok.ensures.line ∙ ap (λ (settings : Settings).
-    operation_json_line settings (request_of c.in-Ok-Some.call) c.args.response.now)
+    let line = rw c.form_of.ensures at c.in-Ok.ensures.line ∙ ap (λ (settings : Settings).
+    operation_json_line (form_of c.args.plain) settings (request_of c.in-Ok-Some.call) c.args.response.now)
     c.new-settings.ensures in
     rw (to_z-of_z w32 c.status_of.result status)
     (rw (to_z-of_z w64 c.copy_out.result told)
     (operation_answered (request_of c.in-Ok-Some.call)
     c.args.name.now c.args.version.now c.args.id.now c.args.payload.now c.args.response.now c.args.into.now c.copy_out.new.room
-    c.in-Ok.answer.line.items c.in-Ok.answer.ending c.status_of.result c.copy_out.result asks ending line c.in-Ok.ensures.json c.status_of.ensures
+    c.in-Ok.answer.line.items c.args.plain c.in-Ok.answer.ending c.status_of.result c.copy_out.result asks ending line c.in-Ok.ensures.json c.status_of.ensures
     (c.copy_out.ensures.len ∙ ap (λ (x : List ℕ). pos (length x)) c.deref.ensures.value)
     (c.copy_out.ensures.room ∙ ap (λ (x : List ℕ). room_with x c.args.into.now)
     c.deref.ensures.value)))

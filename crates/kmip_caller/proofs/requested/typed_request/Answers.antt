@@ -4,8 +4,8 @@ use Rattle.kmip_caller.proofs.requested.typed_request.Goals as goal
 
 pub returns : goal.returns
 returns c =
-    typed_asks c.args.order.now c.in-Some.call c.in_ok-with_request.field-0.asked
-    c.in_ok-with_request.field-0.request c.requires
+    typed_asks c.args.order.now c.args.call c.in_ok-with_request.field-0.asked
+    c.in_ok-with_request.field-0.request c.requires.tree
     (sym c.in_ok-is_allowed.ensures ∙ c.if-not-branch.false)
-    (rw c.as_slice.ensures at (sym c.in_ok-call.ensures ∙ c.in-Some.is))
+    c.requires.typed
     c.in_ok-with_request.ensures.asked c.in_ok-with_request.ensures.request

@@ -1,0 +1,5 @@
+pub mod Written
+pub mod Places
+pub mod Calls
+pub mod Answers
+pub mod Values

@@ -1,0 +1,4 @@
+pub mod Members
+pub mod Objects
+pub mod Numbers
+pub mod Distinct

@@ -1,0 +1,179 @@
+//! Why texts are refused, and where.
+use kmip_encodings::push_refusal;
+use kmip_wire::{OutOfMemory, Text};
+use kmip_xml::{from_xml, refusal_of};
+use std::alloc::Global;
+use std::process::Abort;
+
+/// A text with the sentence that says why it is refused.
+const ROWS: &[(&str, &str)] = &[
+    (
+        "",
+        "line 1, column 1: expected an element, a comment, or the end of the element around, found the end of the text",
+    ),
+    (
+        "  hello",
+        "line 1, column 3: expected an element, a comment, or the end of the element around, found a h",
+    ),
+    (
+        "<BatchCount type=\"Integer\" value=\"1\"/>\n<BatchCount type=\"Integer\" value=\"1\"/>",
+        "line 2, column 39: expected one element, and the end of the text behind it, found the end of the text",
+    ),
+    (
+        "<!DOCTYPE a><BatchItem/>",
+        "line 1, column 2: expected the name of an element, since document types and processing instructions are not read, found a !",
+    ),
+    (
+        "<BatchItem>\n  <?go?></BatchItem>",
+        "line 2, column 4: expected the name of an element, since document types and processing instructions are not read, found a ?",
+    ),
+    (
+        "<?xml version=\"1.0\"><BatchItem/>",
+        "line 1, column 1: expected a declaration that ends with ?>, found a <",
+    ),
+    (
+        "<BatchItem><!-- a -- b --></BatchItem>",
+        "line 1, column 12: expected a comment, with no -- but at its ends, found a <",
+    ),
+    (
+        "<BatchItem>",
+        "line 1, column 12: expected an element, a comment, or the end of the element around, found the end of the text",
+    ),
+    (
+        "<BatchItem></Batch>",
+        "line 1, column 12: expected the end of the element around, found a <",
+    ),
+    (
+        "<BatchItem>text</BatchItem>",
+        "line 1, column 12: expected an element, a comment, or the end of the element around, found a t",
+    ),
+    (
+        "<BatchCount type=\"Integer\" value=\"1\"",
+        "line 1, column 37: expected > or /> or an attribute, found the end of the text",
+    ),
+    (
+        "<BatchCount type=\"Integer\"value=\"1\"/>",
+        "line 1, column 27: expected > or /> or an attribute, found a v",
+    ),
+    (
+        "<BatchCount type=Integer value=\"1\"/>",
+        "line 1, column 18: expected a value in quotes, found a I",
+    ),
+    (
+        "<BatchCount type/>",
+        "line 1, column 17: expected = and the value of an attribute, found a /",
+    ),
+    (
+        "<BatchCount type=\"Integer\" type=\"Integer\"/>",
+        "line 1, column 28: expected tag, type, value or name, each at most once, found a t",
+    ),
+    (
+        "<BatchCount kind=\"Integer\"/>",
+        "line 1, column 13: expected tag, type, value or name, each at most once, found a k",
+    ),
+    (
+        "<BatchCount type=\"Integer\" value=\"1<2\"/>",
+        "line 1, column 34: expected no < in the value of an attribute, found a \"",
+    ),
+    (
+        "<ResultMessage type=\"TextString\" value=\"a &nbsp; b\"/>",
+        "line 1, column 40: expected &quot;, &amp;, &apos;, &lt;, &gt;, or the number of a character as &#10; or &#xA;, found a \"",
+    ),
+    (
+        "<ResultMessage type=\"TextString\" value=\"&#0;\"/>",
+        "line 1, column 40: expected &quot;, &amp;, &apos;, &lt;, &gt;, or the number of a character as &#10; or &#xA;, found a \"",
+    ),
+    (
+        "<ResultMessage type=\"TextString\" value=\"\u{1}\"/>",
+        "line 1, column 41: expected a character that XML has, found something else",
+    ),
+    (
+        "<BatchItem>\n\t<Batch/>\n</BatchItem>",
+        "line 2, column 3: expected the name of a tag, or TTLV with the attribute tag, which is 0x and six hex digits, found \"Batch\"",
+    ),
+    (
+        "<TTLV tag=\"0x42000\"/>",
+        "line 1, column 2: expected the name of a tag, or TTLV with the attribute tag, which is 0x and six hex digits, found \"TTLV\"",
+    ),
+    (
+        "<BatchCount type=\"integer\" value=\"1\"/>",
+        "line 1, column 2, BatchCount.type: expected a type: Structure, Integer, LongInteger, BigInteger, Enumeration, Boolean, TextString, ByteString, DateTime or Interval, found \"integer\"",
+    ),
+    (
+        "<BatchCount type=\"Integer\" value=\"01\"/>",
+        "line 1, column 2, BatchCount.value: expected a whole number from -2147483648 to 2147483647, or 0x and eight hex digits, found \"01\"",
+    ),
+    (
+        "<BatchCount type=\"Integer\"/>",
+        "line 1, column 2, BatchCount.value: expected a whole number from -2147483648 to 2147483647, or 0x and eight hex digits, found nothing",
+    ),
+    (
+        "<CryptographicUsageMask type=\"Integer\" value=\"Encrypt  Decrypt\"/>",
+        "line 1, column 2, CryptographicUsageMask.value: expected names of bits as Encrypt Decrypt, a whole number, or 0x and eight hex digits, found \"Encrypt  Decrypt\"",
+    ),
+    (
+        "<ObjectType type=\"Enumeration\" value=\"Symmetric Key\"/>",
+        "line 1, column 2, ObjectType.value: expected Certificate, SymmetricKey, PublicKey, PrivateKey, SplitKey, Template, SecretData, OpaqueObject, PGPKey, or 0x and eight hex digits, found \"Symmetric Key\"",
+    ),
+    (
+        "<KeyMaterial type=\"ByteString\" value=\"0x00\"/>",
+        "line 1, column 2, KeyMaterial.value: expected hex digits, two for a byte, found a string of 4 bytes",
+    ),
+    (
+        "<BatchItem value=\"1\"/>",
+        "line 1, column 2, BatchItem.value: expected elements in place of a value, found a string of 1 bytes",
+    ),
+    (
+        "<BatchCount type=\"Integer\" value=\"1\"><BatchItem/></BatchCount>",
+        "line 1, column 2: expected no element in one that has a value, found a B",
+    ),
+];
+
+/// Why the text is not read; empty where it is.
+fn sentence(alloc: Global, text: &str) -> Result<Text, OutOfMemory> {
+    let mut out = Text::new(alloc);
+    match from_xml(alloc, text) {
+        Ok(_tree) => Ok(out),
+        Err(error) => {
+            push_refusal(&mut out, &refusal_of(alloc, text, &error)?)?;
+            Ok(out)
+        }
+    }
+}
+
+fn is_refused(rt: &impl Abort, alloc: Global, text: &str, why: &str) {
+    let found = sentence(alloc, text).expect(rt, "memory");
+    assert_eq!(rt; found.as_str(), why, "{text}");
+}
+
+#[test]
+fn texts_are_refused(rt: HostRuntime) {
+    for (text, why) in ROWS {
+        is_refused(&rt, rt.alloc(), text, why);
+    }
+}
+
+/// Opens so many structures, one in the other, and closes them.
+fn nested(alloc: Global, levels: usize) -> Result<Text, OutOfMemory> {
+    let mut out = Text::new(alloc);
+    for _ in 0..levels {
+        out.push_str("<BatchItem>")?;
+    }
+    for _ in 0..levels {
+        out.push_str("</BatchItem>")?;
+    }
+    Ok(out)
+}
+
+#[test]
+fn levels_are_counted(rt: HostRuntime) {
+    let most = nested(rt.alloc(), 64).expect(&rt, "memory");
+    assert!(&rt; from_xml(rt.alloc(), most.as_str()).is_ok());
+    let deeper = nested(rt.alloc(), 65).expect(&rt, "memory");
+    is_refused(
+        &rt,
+        rt.alloc(),
+        deeper.as_str(),
+        "line 1, column 706: expected at most 64 levels of items, found a B",
+    );
+}
