@@ -110,6 +110,16 @@ const NO_FILE: &[&[&str]] = &[
     &["item-id=0A", "sign", "k", "@3"],
 ];
 
+/// The words that name a file.
+fn rows() -> &'static [Row] {
+    ROWS
+}
+
+/// The words that name none.
+fn words_without_file() -> &'static [&'static [&'static str]] {
+    NO_FILE
+}
+
 /// The same words as these texts.
 fn are(list: &List<Text>, words: &[&str]) -> bool {
     list.len() == words.len()
@@ -140,10 +150,10 @@ fn are_naming(
 
 #[test]
 fn a_file_is_named_where_bytes_or_json_stand(rt: HostRuntime) -> Result<(), Fail> {
-    for row in ROWS {
+    for row in rows() {
         are_naming(&rt, rt.alloc(), row.words, Some((row.place, row.file)))?;
     }
-    for words in NO_FILE {
+    for words in words_without_file() {
         are_naming(&rt, rt.alloc(), words, None)?;
     }
     Ok(())
@@ -166,7 +176,7 @@ fn each_of_two_words_may_name_a_file(rt: HostRuntime) -> Result<(), Fail> {
 
 #[test]
 fn what_a_file_has_stands_in_the_place_of_its_word(rt: HostRuntime) -> Result<(), Fail> {
-    for row in ROWS {
+    for row in rows() {
         let words = list_of(rt.alloc(), row.words)?;
         let found = with_contents(rt.alloc(), row.contents, row.place, words.as_slice())?;
         let is_right = match (&found, row.put) {
@@ -174,9 +184,9 @@ fn what_a_file_has_stands_in_the_place_of_its_word(rt: HostRuntime) -> Result<()
             (None, None) => true,
             _ => false,
         };
-        assert!(rt; is_right, "{}", row.words[0]);
+        assert!(rt; is_right, "{}", row.file);
         let elsewhere = with_contents(rt.alloc(), row.contents, 0, words.as_slice())?;
-        assert!(rt; elsewhere.is_none(), "{}", row.words[0]);
+        assert!(rt; elsewhere.is_none(), "{}", row.file);
     }
     Ok(())
 }
