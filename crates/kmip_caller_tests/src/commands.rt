@@ -61,6 +61,11 @@ fn the_operations_have_their_words_and_what_they_ask_for(rt: HostRuntime) -> Res
     assert!(rt; text.as_str().contains(lines));
     let lines = "validate ID [ID..]\n    whether these certificates are a valid chain\n";
     assert!(rt; text.as_str().contains(lines));
-    assert_eq!(rt; text.as_str().lines().count(), 48);
+    let mut count = 0usize;
+    for _ in text.as_str().lines() {
+        count = count.saturating_add(1);
+    }
+    // two lines for each of the 24 calls
+    assert_eq!(rt; count, 48);
     Ok(())
 }

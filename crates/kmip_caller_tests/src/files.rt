@@ -130,6 +130,9 @@ fn are(list: &List<Text>, words: &[&str]) -> bool {
             .all(|(text, word)| text.as_str() == *word)
 }
 
+/// More places than any row has words.
+const PLACES: usize = 8;
+
 /// That these words name this file at this place, and no other.
 fn are_naming(
     rt: &impl Abort,
@@ -138,7 +141,7 @@ fn are_naming(
     file: Option<(usize, &str)>,
 ) -> Result<(), Fail> {
     let words = list_of(alloc, words)?;
-    for place in 0..=words.len() {
+    for place in 0..PLACES {
         let wanted = match file {
             Some((at, name)) if at == place => Some(name),
             _ => None,
