@@ -173,6 +173,14 @@ const ANSWERS: &[AnswerRow] = &[
         line: "{\"answer\":{\"object_type\":\"SymmetricKey\",\"unique_identifier\":\"k2\",",
     },
     AnswerRow {
+        shows: "an object that the tables have no words for, as a tree",
+        call: "get k1",
+        id: b"",
+        response: "OK0(A, 57 e7,94\"k1\",85{86 e1,40{42 e2,45{43 x70617373}}})",
+        status: 0,
+        line: "{\"answer\":{\"tag\":\"ResponsePayload\",\"value\":[{\"tag\":\"ObjectType\",\"type\":\"Enumeration\",\"value\":\"SecretData\"},{\"tag\":\"UniqueIdentifier\",\"type\":\"TextString\",\"value\":\"k1\"},{\"tag\":\"SecretData\",\"value\":[{\"tag\":\"SecretDataType\",\"type\":\"Enumeration\",\"value\":\"Password\"},{\"tag\":\"KeyBlock\",\"value\":[{\"tag\":\"KeyFormatType\",\"type\":\"Enumeration\",\"value\":\"Opaque\"},{\"tag\":\"KeyValue\",\"value\":[{\"tag\":\"KeyMaterial\",\"type\":\"ByteString\",\"value\":\"70617373\"}]}]}]}]}}\n",
+    },
+    AnswerRow {
         shows: "a call with options, as the one without",
         call: "revoke k1 reason=KeyCompromise",
         id: b"",
