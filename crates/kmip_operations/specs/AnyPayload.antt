@@ -1,6 +1,6 @@
 -- What bytes answer to a typed call, also where its tables have no words for the payload: an object
 -- or an attribute of a kind that they lack (KMIP 1.0, 4.10 Get and 4.11 Get Attributes).
-use Rattle.std.specs.Prelude.{◌≡◌, ℕ, List, take, Bool, true, false, ◌&&◌, Option, Some, None, Result, Ok, Err, codes, bytes_eq, if◌then◌else◌}
+use Rattle.std.specs.Prelude.{◌≡◌, ℕ, List, take, Bool, true, false, Option, Some, None, Result, Ok, Err, codes, bytes_eq, if◌then◌else◌}
 use Rattle.std.specs.Option.{option_and_then}
 use Rattle.std.specs.Result.{result_ok}
 use Rattle.kmip_tags.specs.Tags.{UNIQUE_IDENTIFIER}

@@ -205,7 +205,10 @@ fn item_with(payload: &Tree, tag: u32) -> Option<&Tree>
 {
     match &payload.node {
         Node::Structure(items) => {
-            items.as_slice().iter().find(|item| item.tag.number() == tag)
+            items
+                .as_slice()
+                .iter()
+                .find(|item| item.tag.number() == tag)
         }
         _ => None,
     }
@@ -242,7 +245,14 @@ fn other_object(alloc: Global, taken: usize, response: &[u8]) -> Result<TreeAnsw
     let text = Text::of(alloc, "answer for another object")?;
     let answer = Err(Error::InternalError(text));
     let reading = Reading { answer, taken };
-    let TreeAnswer { line, .. } = tree_answer_of(alloc, PayloadForm::Tree, None, None, reading, response)?;
+    let TreeAnswer { line, .. } = tree_answer_of(
+        alloc,
+        PayloadForm::Tree,
+        None,
+        None,
+        reading,
+        response,
+    )?;
     Ok(TreeAnswer {
         ending: Ending::Lost,
         line,

@@ -102,7 +102,11 @@ fn is_answered(rt: &impl Abort, alloc: Global, row: &CallRow) {
     let call = call_of(rt, alloc, row.call);
     let response = bytes_of(rt, alloc, row.response);
     let answer = call_answer(alloc, &plain(), &call, &response).expect(rt, "memory");
-    assert!(rt; answer.line.as_slice() == row.line.as_bytes(), "{}", row.shows);
+    assert!(rt;
+        answer.line.as_slice() == row.line.as_bytes(),
+        "{}",
+        row.shows
+    );
     assert_eq!(rt; answer.ending, row.ending, "{}", row.shows);
     drop(answer);
     drop(call);
