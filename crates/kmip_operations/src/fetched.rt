@@ -1,8 +1,11 @@
 //! What a response answers to a typed call, also where its tables have no words for the payload.
-ghost use Rattle.std.specs.Prelude.{◌≡◌, ◌≢◌, ◌≤◌, length, take, true, false, codes};
+ghost use Rattle.std.specs.Prelude.{◌≡◌, ◌≢◌, ◌≤◌, ◌==◌, ℕ, length, take, true, false, codes};
 ghost use Rattle.std.specs.Prelude.{Some, None, Err, option_map, option_copied};
 ghost use Rattle.std.specs.Prelude.{IfOk, OnOk, IfSome, MatchOption};
+ghost use Rattle.std.specs.List.{find};
 ghost use Rattle.std.specs.Result.{result_ok};
+ghost use Rattle.kmip_wire.specs.Parts.{tag_of, text_in};
+ghost use Rattle.kmip_wire.specs.Sees.{tree_of_node};
 ghost use Rattle.kmip_wire.specs.Tree.{Tree as TheTree};
 ghost use Rattle.kmip_plain.specs.declared.payload.PayloadForm.TheVariants.{Tree as AsTree};
 ghost use Rattle.kmip_client.specs.Message.{message_at, taken_for};
@@ -199,17 +202,36 @@ fn unread_payload(
     payload_in(read_operation_response(alloc, operation, None, response, limit))
 }
 
+/// Whether an item has this tag.
+fn has_tag(item: &Tree, tag: u32) -> bool
+    ensures { result ≡ (tag_of item.now == tag) }
+{
+    item.tag.number() == tag
+}
+
+/// The first of the items that has this tag.
+fn first_with(items: &[Tree], tag: u32) -> Option<&Tree>
+    ensures { option_copied result ≡ find (λ item. tag_of item == tag) items.now }
+{
+    items.iter().find(|item| has_tag(item, tag))
+}
+
 /// The first item with this tag in a payload.
 fn item_with(payload: &Tree, tag: u32) -> Option<&Tree>
     ensures { option_copied result ≡ item_with tag payload.now }
 {
     match &payload.node {
-        Node::Structure(items) => {
-            items
-                .as_slice()
-                .iter()
-                .find(|item| item.tag.number() == tag)
-        }
+        Node::Structure(items) => first_with(items.as_slice(), tag),
+        _ => None,
+    }
+}
+
+/// The text of a Text String.
+fn text_of(node: &Node) -> Option<&str>
+    ensures { (tag : ℕ) → option_map (λ s. s.now) result ≡ text_in (tree_of_node tag node.now) }
+{
+    match node {
+        Node::TextString(text) => Some(text.as_str()),
         _ => None,
     }
 }
@@ -219,10 +241,7 @@ fn first_identifier(payload: &Tree) -> &str
     ensures { result.now ≡ first_identifier payload.now }
 {
     match item_with(payload, UNIQUE_IDENTIFIER) {
-        Some(item) => match &item.node {
-            Node::TextString(text) => text.as_str(),
-            _ => "",
-        },
+        Some(item) => text_of(&item.node).unwrap_or(""),
         None => "",
     }
 }

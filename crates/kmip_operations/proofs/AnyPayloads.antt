@@ -1,7 +1,10 @@
 -- What is told of a payload that the typed reading has no words for.
-use Rattle.std.proofs.Common.{◌≡◌, ◌≢◌, ℕ, List, [], take, refl, ◌∙◌, ap, sym, subst, Bool, true, false, Option, Some, None, option_map, Result, Ok, Err, IfOk, OnOk, codes}
+use Rattle.std.proofs.Common.{◌≡◌, ◌≢◌, ◌==◌, ℕ, List, [], take, refl, ◌∙◌, ap, sym, subst, Bool, true, false, Option, Some, None, option_map, Result, Ok, Err, IfOk, OnOk, codes}
 use Rattle.std.specs.Result.{result_ok}
-use Rattle.kmip_wire.specs.Tree.{Tree}
+use Rattle.std.specs.List.{find}
+use Rattle.kmip_wire.specs.Tree.{Tree, structure, trees_of, list_of-trees_of}
+use Rattle.kmip_wire.specs.Parts.{tag_of}
+use Rattle.kmip_words.specs.Refusal.{item_with}
 use Rattle.kmip_enums.specs.declared.operation.Operation.{Operation}
 use Rattle.kmip_client.specs.Message.{Message, message_at, taken_for}
 use Rattle.kmip_client.specs.Outcome.{Answer, Gives, answer_by, answer_of}
@@ -45,6 +48,14 @@ unread_read (Ok found) payload operation here given is gives reads some = rw is 
     reads ∙ ap result_ok (given_is (answer_by (identified_answer operation None) here) given gives some)
     )
 unread_read (Err error) payload operation here given is gives reads some = tt
+
+-- ---- the first item with a tag
+
+pub found_in : (payload : Tree) (tag wanted : ℕ) (items : List Tree)
+    → structure tag (trees_of items) ≡ payload
+    → find (λ item. tag_of item == wanted) items ≡ item_with wanted payload
+found_in payload tag wanted items is =
+    ap (find (λ item. tag_of item == wanted)) (sym (list_of-trees_of items)) ∙ ap (item_with wanted) is
 
 -- ---- the line of such a payload
 
