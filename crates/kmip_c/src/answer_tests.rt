@@ -173,12 +173,12 @@ const ANSWERS: &[AnswerRow] = &[
         line: "{\"answer\":{\"object_type\":\"SymmetricKey\",\"unique_identifier\":\"k2\",",
     },
     AnswerRow {
-        shows: "an object that the tables have no words for, as a tree",
-        call: "get k1",
+        shows: "attributes that the tables have no words for, as a tree",
+        call: "attributes k1",
         id: b"",
-        response: "OK0(A, 57 e7,94\"k1\",85{86 e1,40{42 e2,45{43 x70617373}}})",
+        response: "OK0(B, 94\"k1\",08{0A\"Cryptographic Algorithm\",0B e6})",
         status: 0,
-        line: "{\"answer\":{\"tag\":\"ResponsePayload\",\"value\":[{\"tag\":\"ObjectType\",\"type\":\"Enumeration\",\"value\":\"SecretData\"},{\"tag\":\"UniqueIdentifier\",\"type\":\"TextString\",\"value\":\"k1\"},{\"tag\":\"SecretData\",\"value\":[{\"tag\":\"SecretDataType\",\"type\":\"Enumeration\",\"value\":\"Password\"},{\"tag\":\"KeyBlock\",\"value\":[{\"tag\":\"KeyFormatType\",\"type\":\"Enumeration\",\"value\":\"Opaque\"},{\"tag\":\"KeyValue\",\"value\":[{\"tag\":\"KeyMaterial\",\"type\":\"ByteString\",\"value\":\"70617373\"}]}]}]}]}}\n",
+        line: "{\"answer\":{\"tag\":\"ResponsePayload\",\"value\":[{\"tag\":\"UniqueIdentifier\",\"type\":\"TextString\",\"value\":\"k1\"},{\"tag\":\"Attribute\",\"value\":[{\"tag\":\"AttributeName\",\"type\":\"TextString\",\"value\":\"Cryptographic Algorithm\"},{\"tag\":\"AttributeValue\",\"type\":\"Enumeration\",\"value\":\"ECDSA\"}]}]}}\n",
     },
     AnswerRow {
         shows: "a call with options, as the one without",
