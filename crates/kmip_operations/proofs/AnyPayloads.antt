@@ -18,7 +18,7 @@ use Rattle.kmip_words.specs.declared.ending.Ending.{Ending}
 use Rattle.kmip_words.specs.declared.ending.Ending.TheVariants.{Answered, Lost}
 use Rattle.kmip_words.proofs.Replies.{given_is}
 use Rattle.kmip_operations.specs.Answers.{tree_line, AddsTreeLine}
-use Rattle.kmip_operations.specs.AnyPayload.{is_fetch, is_unread, unread_payload, fetched_payload, first_identifier, answer_with, AnswersWith, line_or, ending_or}
+use Rattle.kmip_operations.specs.AnyPayload.{is_fetch, is_unread, unread_payload, fetched_payload, first_identifier, answer_with, answer_ending, AnswersWith, line_or, ending_or}
 use Rattle.kmip_operations.specs.JsonLines.{IsTextLine}
 use Rattle.kmip_operations.specs.declared.answer.TreeAnswer.{TreeAnswer}
 
@@ -60,6 +60,10 @@ found_in payload tag wanted items is =
 -- ---- the line of such a payload
 
 -- about another object
+other_answer : (asked : List ℕ) (payload : Tree) → differs asked (first_identifier payload) ≡ true
+    → answer_with asked payload ≡ Err (InternalError (codes "answer for another object"))
+other_answer asked payload is = rw is refl
+
 pub another : {E : Type 0} (result : Result TreeAnswer E) (asked : List ℕ) (payload : Tree)
     (first : List ℕ) → differs asked (first_identifier payload) ≡ true
     → IfOk result (λ answer. answer.line.items
@@ -67,19 +71,30 @@ pub another : {E : Type 0} (result : Result TreeAnswer E) (asked : List ℕ) (pa
     → IfOk result (λ answer. answer.ending ≡ Lost) → IfOk result (λ answer. IsTextLine answer.line.items)
     → IfOk result (λ answer. AnswersWith asked payload first answer.ending answer.line.items)
 another (Ok answer) asked payload first is line ending json =
-    rw is (record { line_is = line; ending_is = ending; json = json })
+    let same = sym (other_answer asked payload is) in
+    record {
+      line_is = line ∙ ap (λ (r : Result Tree Error). tree_line AsTree r first) same;
+      ending_is = ending ∙ ap answer_ending same;
+      json = json;
+    }
 another (Err error) asked payload first is line ending json = tt
 
 -- and about the one that was asked about
+same_answer : (asked : List ℕ) (payload : Tree) → differs asked (first_identifier payload) ≡ false
+    → answer_with asked payload ≡ Ok payload
+same_answer asked payload is = rw is refl
+
 pub same_object : {E : Type 0} (result : Result TreeAnswer E) (asked : List ℕ) (payload : Tree)
     (first : List ℕ) → differs asked (first_identifier payload) ≡ false
     → IfOk result (λ answer. AddsTreeLine AsTree None None (Ok payload) first answer.ending [] answer.line.items)
     → IfOk result (λ answer. AnswersWith asked payload first answer.ending answer.line.items)
-same_object (Ok answer) asked payload first is tells = rw is (record {
-  line_is = tells.added;
-  ending_is = tells.ending_is;
-  json = subst IsTextLine (sym tells.added) tells.json;
-})
+same_object (Ok answer) asked payload first is tells =
+    let same = sym (same_answer asked payload is) in
+    record {
+      line_is = tells.added ∙ ap (λ (r : Result Tree Error). tree_line AsTree r first) same;
+      ending_is = tells.ending_is ∙ ap answer_ending same;
+      json = subst IsTextLine (sym tells.added) tells.json;
+    }
 same_object (Err error) asked payload first is tells = tt
 
 -- ---- the call
