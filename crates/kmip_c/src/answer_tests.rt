@@ -173,6 +173,14 @@ const ANSWERS: &[AnswerRow] = &[
         line: "{\"answer\":{\"object_type\":\"SymmetricKey\",\"unique_identifier\":\"k2\",",
     },
     AnswerRow {
+        shows: "attributes that the tables have no words for, as a tree",
+        call: "attributes k1",
+        id: b"",
+        response: "OK0(B, 94\"k1\",08{0A\"Cryptographic Algorithm\",0B e6})",
+        status: 0,
+        line: "{\"answer\":{\"tag\":\"ResponsePayload\",\"value\":[{\"tag\":\"UniqueIdentifier\",\"type\":\"TextString\",\"value\":\"k1\"},{\"tag\":\"Attribute\",\"value\":[{\"tag\":\"AttributeName\",\"type\":\"TextString\",\"value\":\"Cryptographic Algorithm\"},{\"tag\":\"AttributeValue\",\"type\":\"Enumeration\",\"value\":\"ECDSA\"}]}]}}\n",
+    },
+    AnswerRow {
         shows: "a call with options, as the one without",
         call: "revoke k1 reason=KeyCompromise",
         id: b"",

@@ -162,8 +162,8 @@ pub extern "C" fn kmip_contents_len(bytes: &[u8], limit: u32) -> i64
 /// first message of `response` is not looked at.
 ///
 /// The call is given as to `kmip_request`. The line is `{"answer":..}` with the payload as an object
-/// of its members, or the error. It returns one of these; after 2 and 5 there is no line, and
-/// `length` is 0:
+/// of its members, or as a tree where it is of `get` or `attributes` and their tables have no words
+/// for it; or the error. It returns one of these; after 2 and 5 there is no line, and `length` is 0:
 ///
 /// - 0: the response is valid and reports success.
 /// - 1: the answer is an error, and the connection is good for the next call.

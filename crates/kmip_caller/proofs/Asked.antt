@@ -6,7 +6,7 @@ use Rattle.kmip_client.specs.Message.{Message, message_at}
 use Rattle.kmip_wire.specs.Tree.{Tree}
 use Rattle.kmip_client.specs.Operation.{TreeRequest, operation_bytes}
 use Rattle.kmip_client.specs.WholeMessage.{whole_bytes, whole_answer}
-use Rattle.kmip_client.specs.Outcome.{answer_by, read_answer}
+use Rattle.kmip_client.specs.Outcome.{answer_by, answer_of}
 use Rattle.kmip_client.specs.Untyped.{identified_answer}
 use Rattle.kmip_client.specs.declared.error.Error.{Error}
 use Rattle.kmip_words.specs.Calls.{typed_call}
@@ -15,6 +15,7 @@ use Rattle.kmip_words.specs.About.{answer_about, ending_about, line_with}
 use Rattle.kmip_words.specs.declared.call.Call.{Call}
 use Rattle.kmip_plain.specs.declared.payload.PayloadForm.TheVariants.{Tree as AsTree, Plain as AsPlain}
 use Rattle.kmip_operations.specs.Answers.{tree_line, answer_to, tree_ending}
+use Rattle.kmip_operations.specs.AnyPayload.{fetched_payload, line_or, ending_or}
 use Rattle.kmip_operations.specs.Calls.{Asks, IsMessageText, request_of}
 use Rattle.kmip_operations.specs.declared.call.OperationCall.{OperationCall}
 use Rattle.kmip_operations.proofs.Asked.{one_call, one_structure}
@@ -39,25 +40,34 @@ pub record IsReading (limit : Option ℕ) (exchange : Exchange) : Type 0 where
   pub ending : (rest bytes : List ℕ) → bytes ≡ take (taken_at rest limit) rest → IsOneAtMost limit bytes
       → exchange.ending bytes ≡ exchange.ending rest
 
+same_from : {X : Type 0} (limit : Option ℕ) (f : Message → List ℕ → X) (rest bytes : List ℕ)
+    → bytes ≡ take (taken_at rest limit) rest → IsOneAtMost limit bytes
+    → f (message_at bytes limit) (take (taken_at bytes limit) bytes)
+    ≡ f (message_at rest limit) (take (taken_at rest limit) rest)
+same_from limit f rest bytes is one =
+    let here : message_at bytes limit ≡ message_at rest limit =
+    ap (λ l. message_at l limit) is ∙ same_message rest limit in
+    ap (λ (m : Message). f m (take (taken_at bytes limit) bytes)) here
+    ∙ ap (λ (l : List ℕ). f (message_at rest limit) l)
+    (ap (λ n. take n bytes) one ∙ take-length bytes ∙ is)
+
 same_by : {A X : Type 0} (reads : List ℕ → Result A Error) (limit : Option ℕ)
     (f : Result A Error → List ℕ → X) (rest bytes : List ℕ)
     → bytes ≡ take (taken_at rest limit) rest → IsOneAtMost limit bytes
     → f (answer_by reads (message_at bytes limit)) (take (taken_at bytes limit) bytes)
     ≡ f (answer_by reads (message_at rest limit)) (take (taken_at rest limit) rest)
-same_by reads limit f rest bytes is one =
-    let here : message_at bytes limit ≡ message_at rest limit =
-    ap (λ l. message_at l limit) is ∙ same_message rest limit in
-    ap (λ (m : Message). f (answer_by reads m) (take (taken_at bytes limit) bytes)) here
-    ∙ ap (λ (l : List ℕ). f (answer_by reads (message_at rest limit)) l)
-    (ap (λ n. take n bytes) one ∙ take-length bytes ∙ is)
+same_by reads limit f = same_from limit (λ m first. f (answer_by reads m) first)
 
 pub exchange_reading : (settings : Settings) (asked : Asked)
     → IsReading settings.limit (exchange_of settings asked)
 exchange_reading settings (found.Typed call) = record {
-  line = λ rest bytes is one. same_by (read_answer (operation_asked call)) settings.limit
-      (λ answer first. line_with call (answer_about call answer first) first) rest bytes is one;
-  ending = λ rest bytes is one. same_by (read_answer (operation_asked call)) settings.limit
-      (ending_about call) rest bytes is one;
+  line = λ rest bytes is one. same_from settings.limit
+      (λ m first. line_or
+      (line_with call (answer_about call (answer_of (operation_asked call) m) first) first) call
+      (fetched_payload call m) first) rest bytes is one;
+  ending = λ rest bytes is one. same_from settings.limit
+      (λ m first. ending_or (ending_about call (answer_of (operation_asked call) m) first) call
+      (fetched_payload call m)) rest bytes is one;
 }
 exchange_reading settings (found.Operation call form) = record {
   line = λ rest bytes is one. same_by (identified_answer call.operation call.id) settings.limit

@@ -9,12 +9,12 @@ use Rattle.kmip_client.specs.declared.error.Error.{Error}
 use Rattle.kmip_client.specs.declared.error.Error.TheVariants.{SerializeError, RequestWriteError, ResponseReadError}
 use Rattle.kmip_words.specs.Streams.{Gives, GivesPart, WrotePart, WroteProperPart}
 use Rattle.kmip_words.specs.Exchange.{Settings, request_asked, or_empty, error_line}
-use Rattle.kmip_words.specs.About.{response_line, response_ending}
 use Rattle.kmip_words.specs.declared.call.Call.{Call}
 use Rattle.kmip_words.specs.declared.ending.Ending.{Ending}
 use Rattle.kmip_words.specs.declared.ending.Ending.TheVariants.{Refused, Lost}
 use Rattle.kmip_plain.specs.declared.payload.PayloadForm.{PayloadForm}
 use Rattle.kmip_operations.specs.Answers.{operation_json_line, operation_ending, message_json_line, message_ending}
+use Rattle.kmip_operations.specs.AnyPayload.{call_line, call_ending}
 use Rattle.kmip_caller.specs.Wire.{taken_at, IsOneAtMost}
 
 -- What a call sends, and what it makes of the bytes that come back.
@@ -25,12 +25,12 @@ pub record Exchange : Type 0 where
   pub line : List ℕ → List ℕ
   pub ending : List ℕ → Ending
 
--- a call of kmip_words
+-- a typed call of kmip_words
 abbrev pub typed_exchange : Settings → Call → Exchange
 typed_exchange settings call = record {
   message = (request_asked call settings.credential).message;
-  line = response_line settings call;
-  ending = response_ending settings call;
+  line = call_line settings call;
+  ending = call_ending settings call;
 }
 
 -- a call of any operation, with this form of the payload in its answer

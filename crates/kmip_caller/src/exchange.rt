@@ -1,7 +1,6 @@
 //! One call over a sink and a source, and the line of its answer.
 ghost use Rattle.std.specs.Prelude.{◌≡◌, cond, Some, option_map, IfOk, OnErr};
 ghost use Rattle.kmip_words.specs.Exchange.{loses_link};
-ghost use Rattle.kmip_words.specs.About.{response_line, response_ending};
 ghost use Rattle.kmip_words.specs.declared.ending.Ending.TheVariants as endings;
 ghost use Rattle.kmip_caller.specs.Exchange.{Exchange as TheExchange, failure_line, CarriedPart};
 ghost use Rattle.kmip_caller.specs.Exchange.{IsLinkFailed};
@@ -15,10 +14,10 @@ use crate::requested::{Asked, Requested};
 use crate::wire::{TransferStop, transfer};
 use kmip_client::Error;
 use kmip_link::{Sink, Source};
-use kmip_operations::{TreeAnswer, message_answer, operation_answer};
+use kmip_operations::{TreeAnswer, call_answer, message_answer, operation_answer};
 use kmip_shape::Style;
 use kmip_wire::{OutOfMemory, Text};
-use kmip_words::{Call, Ending, Settings, answer_of, show_error};
+use kmip_words::{Ending, Settings, show_error};
 use std::alloc::Global;
 
 /// The bytes of a text.
@@ -28,24 +27,6 @@ fn bytes_of(alloc: Global, text: &Text) -> Result<Vec<u8>, OutOfMemory>
     let mut bytes = Vec::new(alloc);
     bytes.extend_from_slice(text.as_str().as_bytes())?;
     Ok(bytes)
-}
-
-/// What these bytes answer to a typed call.
-fn typed_answer(
-    alloc: Global,
-    settings: &Settings,
-    call: &Call,
-    response: &[u8],
-) -> Result<TreeAnswer, OutOfMemory>
-    ensures line { IfOk result (λ answer.
-        answer.line.items ≡ response_line settings.now call.now response.now) }
-    ensures ending { IfOk result (λ answer.
-        answer.ending ≡ response_ending settings.now call.now response.now) }
-{
-    let mut line = Text::new(alloc);
-    let ending = answer_of(alloc, settings, call, response, &mut line)?;
-    let line = bytes_of(alloc, &line)?;
-    Ok(TreeAnswer { ending, line })
 }
 
 /// What these bytes answer to a call whose request was sent.
@@ -61,7 +42,7 @@ fn answer_to(
         answer.ending ≡ (exchange_of settings.now asked.now).ending response.now) }
 {
     match asked {
-        Asked::Typed(call) => typed_answer(alloc, settings, call, response),
+        Asked::Typed(call) => call_answer(alloc, settings, call, response),
         Asked::Operation(call, form) => { operation_answer(alloc, settings, call, response, *form) }
         Asked::Message(_) => message_answer(alloc, settings, response),
     }

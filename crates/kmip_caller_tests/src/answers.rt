@@ -82,6 +82,14 @@ const ANSWERS: &[Row] = &[
         ..ANSWERED
     },
     Row {
+        shows: "a Secret Data as a tree, since its tables have no words for one",
+        words: &["get", "7"],
+        response: "OK0(A, 57 e7,94 \"7\",85{86 e1,40{42 e2,45{43 x70617373}}})",
+        sent: "REQ0(A, 94 \"7\")",
+        line: "{\"answer\":{\"tag\":\"ResponsePayload\",\"value\":[{\"tag\":\"ObjectType\",\"type\":\"Enumeration\",\"value\":\"SecretData\"},{\"tag\":\"UniqueIdentifier\",\"type\":\"TextString\",\"value\":\"7\"},{\"tag\":\"SecretData\",\"value\":[{\"tag\":\"SecretDataType\",\"type\":\"Enumeration\",\"value\":\"Password\"},{\"tag\":\"KeyBlock\",\"value\":[{\"tag\":\"KeyFormatType\",\"type\":\"Enumeration\",\"value\":\"Opaque\"},{\"tag\":\"KeyValue\",\"value\":[{\"tag\":\"KeyMaterial\",\"type\":\"ByteString\",\"value\":\"70617373\"}]}]}]}]}}\n",
+        ..ANSWERED
+    },
+    Row {
         shows: "create-aes",
         words: &["create-aes", "256", "data"],
         response: "OK0(1, 57 e2,94 \"8\")",

@@ -3,8 +3,8 @@ use Rattle.std.specs.Prelude.{ℕ, List, Option}
 use Rattle.kmip_types.specs.declared.auth.CredentialType.{CredentialType}
 use Rattle.kmip_client.specs.Operation.{operation_bytes}
 use Rattle.kmip_operations.specs.Answers.{operation_json_line, operation_ending}
+use Rattle.kmip_operations.specs.AnyPayload.{call_line, call_ending}
 use Rattle.kmip_plain.specs.declared.payload.PayloadForm.TheVariants.{Plain}
-use Rattle.kmip_words.specs.About.{response_line, response_ending}
 use Rattle.kmip_words.specs.Exchange.{Settings}
 use Rattle.kmip_words.specs.Exchange as typed_calls
 use Rattle.kmip_words.specs.declared.ending.Ending.{Ending}
@@ -17,11 +17,11 @@ request_asked (operation request) credential = operation_bytes request credentia
 
 -- the line of JSON that says what these bytes answer to a call whose request was sent
 abbrev pub line_of : Settings → Asked → List ℕ → List ℕ
-line_of settings (typed call) response = response_line settings call response
+line_of settings (typed call) response = call_line settings call response
 line_of settings (operation request) response =
     operation_json_line Plain settings request response
 
 -- how the call ended
 abbrev pub ending_of : Settings → Asked → List ℕ → Ending
-ending_of settings (typed call) response = response_ending settings call response
+ending_of settings (typed call) response = call_ending settings call response
 ending_of settings (operation request) response = operation_ending settings request response

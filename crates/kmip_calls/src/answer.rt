@@ -1,19 +1,19 @@
 //! The request that a call sends, and what a response answers to it.
 ghost use Rattle.std.specs.Prelude.{◌≡◌, IfOk};
 ghost use Rattle.kmip_operations.specs.Answers.{operation_json_line, operation_ending};
+ghost use Rattle.kmip_operations.specs.AnyPayload.{call_line, call_ending};
 ghost use Rattle.kmip_operations.specs.Calls.{request_of};
 ghost use Rattle.kmip_operations.specs.JsonLines.{IsTextLine};
 ghost use Rattle.kmip_plain.specs.declared.payload.PayloadForm.TheVariants.{Plain};
-ghost use Rattle.kmip_words.specs.About.{response_line, response_ending};
 ghost use Rattle.kmip_calls.specs.Answers.{request_asked, line_of, ending_of};
 ghost use Rattle.kmip_calls.specs.Calls.{call_view};
 
 use crate::call::WordsCall;
 use kmip_operations::{
-    OperationCall, PayloadForm, TreeAnswer, operation_answer, operation_request,
+    OperationCall, PayloadForm, TreeAnswer, call_answer, operation_answer, operation_request,
 };
-use kmip_wire::{Blob, OutOfMemory, Text};
-use kmip_words::{Call, Ending, Settings, answer_of, request_of};
+use kmip_wire::{Blob, OutOfMemory};
+use kmip_words::{Call, Ending, Settings, request_of};
 use std::alloc::Global;
 
 /// The bytes that a call sends: its one canonical message, with the credential of the settings;
@@ -49,15 +49,12 @@ fn typed_answer(
     response: &[u8],
 ) -> Result<LineAnswer, OutOfMemory>
     ensures line { IfOk result (λ answer. answer.line.items ≡
-        response_line settings.now call.now response.now) }
+        call_line settings.now call.now response.now) }
     ensures ending { IfOk result (λ answer. answer.ending ≡
-        response_ending settings.now call.now response.now) }
+        call_ending settings.now call.now response.now) }
     ensures json { IfOk result (λ answer. IsTextLine answer.line.items) }
 {
-    let mut text = Text::new(alloc);
-    let ending = answer_of(alloc, settings, call, response, &mut text)?;
-    let mut line = Vec::new(alloc);
-    line.extend_from_slice(text.as_str().as_bytes())?;
+    let TreeAnswer { ending, line } = call_answer(alloc, settings, call, response)?;
     Ok(LineAnswer { ending, line })
 }
 
@@ -91,7 +88,8 @@ fn table_answer(
 /// The line is `{"answer":..}` with the payload as an object of its members, as
 /// `{"answer":{"data":"6868"}}`, or `{"error":"ItemNotFound","text":".."}` as kmip_words'
 /// `answer_of` says. Which responses are none to the call is said there for a typed one, and at
-/// kmip_operations' `operation_answer` for one of the table.
+/// kmip_operations' `operation_answer` for one of the table. What `get` and `attributes` have no
+/// words for, as a key of EC, is answered as a tree, as kmip_operations' `call_answer` says.
 pub fn answer_to_words(
     alloc: Global,
     settings: &Settings,

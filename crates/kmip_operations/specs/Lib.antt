@@ -1,3 +1,4 @@
 pub mod Calls
 pub mod JsonLines
 pub mod Answers
+pub mod AnyPayload

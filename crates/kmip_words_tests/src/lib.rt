@@ -3,6 +3,8 @@
 #![tactic(auto)]
 
 #[cfg(test)]
+mod fetched;
+#[cfg(test)]
 mod grammar;
 #[cfg(test)]
 mod operations;
