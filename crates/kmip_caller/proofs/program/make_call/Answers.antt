@@ -1,4 +1,4 @@
-use Rattle.kmip_caller.proofs.Asked.{asked_clash}
+use Rattle.kmip_caller.proofs.Asked.{asked_clash, kept_for}
 use Rattle.kmip_caller.proofs.Exchanges.{part_unsent, on_err}
 use Rattle.kmip_caller.proofs.program.make_call.Goals as goal
 
@@ -26,3 +26,7 @@ returns-in_ok-exchange-in-Some-clause-wire g c = asked_clash c.args.order.now _ 
 
 pub returns-in_ok-exchange-in-Some-clause-source : goal.returns-in_ok-exchange-in-Some-clause-source
 returns-in_ok-exchange-in-Some-clause-source g c = asked_clash c.args.order.now _ _ (rw c.in-Some.is at c.in_ok-requested.ensures)
+
+pub returns-in_ok-exchange-in-Some-clause-words : goal.returns-in_ok-exchange-in-Some-clause-words
+returns-in_ok-exchange-in-Some-clause-words g c =
+    kept_for c.args.order.now _ _ _ (rw c.in-Some.is at c.in_ok-requested.ensures) c.in_ok-words.ensures
