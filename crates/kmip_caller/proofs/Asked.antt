@@ -1,5 +1,5 @@
 -- What an order asks for.
-use Rattle.std.proofs.Common.{◌≡◌, ℕ, List, take, refl, ◌∙◌, ap, sym, subst, Bool, true, false, Option, Some, None, Result, if◌then◌else◌}
+use Rattle.std.proofs.Common.{◌≡◌, ℕ, List, take, refl, ◌∙◌, ap, sym, subst, Option, Some, None, Result}
 use Rattle.std.specs.Option.{option_and_then}
 use Rattle.std.proofs.Math.Seq.{take-length}
 use Rattle.kmip_client.specs.Message.{Message, message_at}
