@@ -282,18 +282,18 @@ pub raw : (request response : List ℕ) → IsTrue (is_raw request) → IsBytes 
 raw request response is bytes =
     let words : List (List ℕ) = raw_words request in
     let sent = sent_by request (call_read words) is in
-    let recordable : is_recordable words ≡ true = is_call_by (call_read words) sent.0 sent.1.0 in
+    let recordable : is_recordable words ≡ true = is_call_by (call_read words) sent.0 sent.1 in
     let empty : ReadsBack words [] = back words [] recordable no_bytes in
     let line : ReadsBack words response = back words response recordable bytes in
     let of_empty : Recorded = record { call = empty.call; response = [] } in
     let read : sent.0 ≡ of_empty =
     same_read (call_of (record_line words [])) sent.0 of_empty
-    (chosen (are_script_words words) (call_of (record_line words [])) sent.0 sent.1.0) empty.back in
+    (chosen (are_script_words words) (call_of (record_line words [])) sent.0 sent.1) empty.back in
     let same : sent.0.call ≡ line.call =
     ap (λ (r : Recorded). r.call) read
     ∙ same_call words empty.call line.call empty.call_is line.call_is in (
       line,
-      ap (λ (c : Call). or_empty (request_asked c None).message) (sym same) ∙ sent.1.1,
+      ap (λ (c : Call). or_empty (request_asked c None).message) (sym same) ∙ sent.2,
     )
 
 -- ---- the call of words that a script has
