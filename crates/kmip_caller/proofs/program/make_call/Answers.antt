@@ -27,12 +27,12 @@ returns-in_err-end-in-Some-clause-wire g c = asked_clash c.args.order.now _ _ (r
 pub returns-in_err-end-in-Some-clause-source : goal.returns-in_err-end-in-Some-clause-source
 returns-in_err-end-in-Some-clause-source g c = asked_clash c.args.order.now _ _ (rw c.in-Some.is at c.in_ok-requested.ensures)
 
-pub returns-in-Some-clause-wire : goal.returns-in-Some-clause-wire
-returns-in-Some-clause-wire g c = asked_clash c.args.order.now _ _ (rw c.in-Some.is at c.in_ok-requested.ensures)
+pub returns-in_ok-end-in-Some-clause-wire : goal.returns-in_ok-end-in-Some-clause-wire
+returns-in_ok-end-in-Some-clause-wire g c = asked_clash c.args.order.now _ _ (rw c.in-Some.is at c.in_ok-requested.ensures)
 
-pub returns-in-Some-clause-source : goal.returns-in-Some-clause-source
-returns-in-Some-clause-source g c = asked_clash c.args.order.now _ _ (rw c.in-Some.is at c.in_ok-requested.ensures)
+pub returns-in_ok-end-in-Some-clause-source : goal.returns-in_ok-end-in-Some-clause-source
+returns-in_ok-end-in-Some-clause-source g c = asked_clash c.args.order.now _ _ (rw c.in-Some.is at c.in_ok-requested.ensures)
 
-pub returns-in-Some-clause-words : goal.returns-in-Some-clause-words
-returns-in-Some-clause-words g c =
+pub returns-in_ok-end-in-Some-clause-words : goal.returns-in_ok-end-in-Some-clause-words
+returns-in_ok-end-in-Some-clause-words g c =
     kept_for c.args.order.now _ _ _ (rw c.in-Some.is at c.in_ok-requested.ensures) c.in_ok-words-in-Some.ensures
