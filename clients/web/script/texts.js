@@ -61,15 +61,16 @@ const marks = {
   },
 };
 
-// The records of kmip_call and the scripts of `kmip_run replay`: a call, and the response that
+// The records of the clients and the scripts of `kmip_run replay`: a call, and the response that
 // was recorded for it. The number is that of a line's words.
 const CALLS = new Map(Object.entries({ 'query': 2, 'create-rsa': 5, 'rng': 3, 'sign': 4,
-  'activate': 3, 'revoke': 3, 'destroy': 3, 'rename': 4, 'get': 3, 'raw': 3 }));
+  'activate': 3, 'revoke': 3, 'destroy': 3, 'rename': 4, 'get': 3, 'raw': 3,
+  'message': 3 }));
 function callOf(line) {
   if (!CALLS.has(line.slice(0, line.indexOf(' ')))) return null;
   const words = line.split(' ');
   if (CALLS.get(words[0]) !== words.length) return null;
-  const response = words.at(-1), request = words[0] === 'raw' ? words[1] : '';
+  const response = words.at(-1), request = /^(?:raw|message)$/.test(words[0]) ? words[1] : '';
   const isResponse = response === '-' || MESSAGE.test(response);
   return isResponse && (!request || MESSAGE.test(request)) ? { words, request, response } : null;
 }
@@ -86,7 +87,7 @@ const records = {
     return made;
   },
 };
-// The request of a call other than `raw` is not in the record: its chunk has the words instead.
+// The request of a call other than `raw` and `message` is not in the record: its chunk has the words instead.
 function addCall(made, { words, request, response }, line) {
   if (request) addLine(made, 'sent', request, line);
   else {

@@ -30,6 +30,8 @@ const both = {
   'a log with what each read gave': chunked,
   'records of raw calls': `raw ${hexOf(request)} ${hexOf(response)}\n`
     + `raw ${hexOf(second)} ${hexOf(answer)}\n`,
+  'records of a message and a raw call': `message ${hexOf(request)} ${hexOf(response)}\n`
+    + `raw ${hexOf(second)} ${hexOf(answer)}\n`,
   'a script of kmip_run audit': `${hexOf(sent)}\n${hexOf(received)}\n`,
   'lines that end with messages': [request, response, second, answer]
     .map((message, i) => `09:00:0${i} wire="${hexOf(message)}"\n`).join(''),

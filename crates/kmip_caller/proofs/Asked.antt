@@ -1,6 +1,6 @@
 -- What an order asks for.
-use Rattle.std.proofs.Common.{◌≡◌, ℕ, List, take, refl, ◌∙◌, ap, sym, subst, Bool, true, false, Option, Some, None, Result, if◌then◌else◌}
-use Rattle.std.specs.Option.{is_some, option_and_then}
+use Rattle.std.proofs.Common.{◌≡◌, ℕ, List, take, refl, ◌∙◌, ap, sym, subst, Option, Some, None, Result}
+use Rattle.std.specs.Option.{option_and_then}
 use Rattle.std.proofs.Math.Seq.{take-length}
 use Rattle.kmip_client.specs.Message.{Message, message_at}
 use Rattle.kmip_wire.specs.Tree.{Tree}
@@ -24,8 +24,9 @@ use Rattle.kmip_caller.specs.Wire.{taken_at, IsOneAtMost}
 use Rattle.kmip_caller.specs.TreeWords.{TreeText, an_operation, a_message, tree_words, item_id}
 use Rattle.kmip_operation_words.specs.Calls.{table_request}
 use Rattle.kmip_caller.specs.TableWords.{with_id, table_words}
+use Rattle.kmip_caller.specs.Record.{words_kept}
 use Rattle.kmip_caller.specs.Exchange.{Exchange, typed_exchange, operation_exchange, message_exchange}
-use Rattle.kmip_caller.specs.Asked.{is_allowed, call_for, AsksTree, AsksFor, tree, typed, table, AsksForNone, exchange_of, Requests}
+use Rattle.kmip_caller.specs.Asked.{AsksTree, AsksFor, tree, typed, table, AsksForNone, exchange_of, Requests}
 use Rattle.kmip_caller.specs.declared.command.Order.{Order}
 use Rattle.kmip_caller.specs.declared.requested.Asked.{Asked}
 use Rattle.kmip_caller.specs.declared.requested.Asked.TheVariants as found
@@ -89,26 +90,19 @@ both_words : {G : Type 0} (order : Order) (text : TreeText) → tree_words order
     → tree_words order.words ≡ None → G
 both_words order text some none = absurd (cc)
 
-none_by : (allowed : Bool) (call : Option Call) → call ≡ None → (if allowed then call else None) ≡ None
-none_by true call is = is
-none_by false call is = refl
-
--- words that are no typed call ask for none
-none_typed : (order : Order) → typed_call order.words ≡ None → call_for order ≡ None
-none_typed order is = none_by (is_allowed order.file order.words) (typed_call order.words) is
-
 call_clash : {G : Type 0} (found : Option Call) (call : Call) → found ≡ Some call → found ≡ None → G
 call_clash found call some none = absurd (cc)
 
-both_calls : {G : Type 0} (order : Order) (call : Call) → call_for order ≡ Some call
+both_calls : {G : Type 0} (order : Order) (call : Call) → typed_call order.words ≡ Some call
     → typed_call order.words ≡ None → G
-both_calls order call some none = call_clash (call_for order) call some (none_typed order none)
+both_calls order call some none = call_clash (typed_call order.words) call some none
 
 same_request : (order : Order) (a b : TreeRequest) → table_words order.words ≡ Some a
     → table_words order.words ≡ Some b → a ≡ b
 same_request order a b first second = cc
 
-same_call : (order : Order) (a b : Call) → call_for order ≡ Some a → call_for order ≡ Some b → a ≡ b
+same_call : (order : Order) (a b : Call) → typed_call order.words ≡ Some a
+    → typed_call order.words ≡ Some b → a ≡ b
 same_call order a b first second = cc
 
 same_text : (order : Order) (a b : TreeText) → tree_words order.words ≡ Some a
@@ -130,56 +124,36 @@ tree_once settings (a_message text) a b (message, is, by) (wanted, are, done) =
     by ∙ ap (message_exchange settings) (one_structure REQUEST_MESSAGE text message wanted is are) ∙ sym done
 
 pub asked_once : (order : Order) (a b : Exchange) → AsksFor order a → AsksFor order b → a ≡ b
-asked_once order a b (tree none text is asks) (tree also other are asked) =
+asked_once order a b (tree text is asks) (tree other are asked) =
     let P : TreeText → Type 0 = λ t. AsksTree order.settings t a in
     tree_once order.settings other a b (subst P (same_text order text other is are) asks) asked
-asked_once order a b (tree none text is asks) (typed plain call found_is done) =
+asked_once order a b (tree text is asks) (typed plain call found_is done) =
     both_words order text is plain
-asked_once order a b (typed plain call is by) (tree none text are asks) =
+asked_once order a b (typed plain call is by) (tree text are asks) =
     both_words order text are plain
-asked_once order a b (tree none text is asks) (table unkept plain request found_is done) =
+asked_once order a b (tree text is asks) (table plain request found_is done) =
     both_words order text is plain
 asked_once order a b (typed plain call is by) (typed also other are done) =
     by ∙ ap (typed_exchange order.settings) (same_call order call other is are) ∙ sym done
-asked_once order a b (typed plain call is by) (table unkept also request found_is done) =
+asked_once order a b (typed plain call is by) (table also request found_is done) =
     both_calls order call is (table_untyped order.words request found_is)
-asked_once order a b (table unkept plain request is by) (tree none text are asks) =
+asked_once order a b (table plain request is by) (tree text are asks) =
     both_words order text are plain
-asked_once order a b (table unkept plain request is by) (typed also call are done) =
+asked_once order a b (table plain request is by) (typed also call are done) =
     both_calls order call are (table_untyped order.words request is)
-asked_once order a b (table unkept plain request is by) (table none also other are done) =
+asked_once order a b (table plain request is by) (table also other are done) =
     by ∙ ap (operation_exchange AsPlain order.settings) (same_request order request other is are) ∙ sym done
 
 -- ---- what the code finds
 
 pub typed_asks : (order : Order) (call : Call) (asked : Asked) (request : Option (List ℕ))
-    → tree_words order.words ≡ None → is_allowed order.file order.words ≡ true
-    → typed_call order.words ≡ Some call → asked ≡ found.Typed call →
+    → tree_words order.words ≡ None → typed_call order.words ≡ Some call → asked ≡ found.Typed call →
     request ≡ (request_asked call order.settings.credential).message
     → Requests order asked request
-typed_asks order call asked request none allowed is found_is message = rw found_is (record {
-  asks = typed none call (rw (allowed, is) refl) refl;
+typed_asks order call asked request none is found_is message = rw found_is (record {
+  asks = typed none call is refl;
   message = message;
 })
-
-none_in : (file : Option (List ℕ)) → is_some file ≡ false → file ≡ None
-none_in None e = refl
-none_in (Some f) e = absurd (cc)
-
-unallowed : (allowed : Bool) (call : Option Call) → allowed ≡ false
-    → (if allowed then call else None) ≡ None
-unallowed true call is = absurd (cc)
-unallowed false call is = refl
-
--- a typed call that a script cannot hold is not made where it is to be recorded
-pub none_allowed : (order : Order) (call : Call) → tree_words order.words ≡ None
-    → typed_call order.words ≡ Some call → is_allowed order.file order.words ≡ false → AsksForNone order
-none_allowed order call none is not exchange (tree unkept text are asks) = both_words order text are none
-none_allowed order call none is not exchange (typed plain other found_is by) =
-    call_clash (call_for order) other found_is
-    (unallowed (is_allowed order.file order.words) (typed_call order.words) not)
-none_allowed order call none is not exchange (table unkept plain request found_is by) =
-    call_clash (typed_call order.words) call is (table_untyped order.words request found_is)
 
 -- ---- calls of the table
 
@@ -196,11 +170,11 @@ words_of_none words hex hex_is none =
     ap (option_and_then (table_request (with_id words).rest)) (ap item_id (sym hex_is) ∙ none)
 
 pub table_asks : (order : Order) (call : OperationCall) (request : Option (List ℕ))
-    → is_some order.file ≡ false → tree_words order.words ≡ None → table_words order.words ≡ Some (request_of call)
+    → tree_words order.words ≡ None → table_words order.words ≡ Some (request_of call)
     → request ≡ operation_bytes (request_of call) order.settings.credential
     → Requests order (found.Operation call AsPlain) request
-table_asks order call request unkept none is message = record {
-  asks = table (none_in order.file unkept) none (request_of call) is refl;
+table_asks order call request none is message = record {
+  asks = table none (request_of call) is refl;
   message = message;
 }
 
@@ -211,37 +185,23 @@ request_clash found request some none = absurd (cc)
 -- words that are neither a typed call nor one of the table ask for none
 pub none_of_table : (order : Order) → tree_words order.words ≡ None → typed_call order.words ≡ None
     → table_words order.words ≡ None → AsksForNone order
-none_of_table order none untyped absent exchange (tree unkept text is asks) = both_words order text is none
+none_of_table order none untyped absent exchange (tree text is asks) = both_words order text is none
 none_of_table order none untyped absent exchange (typed plain call is by) = both_calls order call is untyped
-none_of_table order none untyped absent exchange (table unkept plain request is by) =
+none_of_table order none untyped absent exchange (table plain request is by) =
     request_clash (table_words order.words) request is absent
-
-file_clash : {G : Type 0} (file : Option (List ℕ)) (name : List ℕ) → file ≡ Some name → file ≡ None → G
-file_clash file name some none = absurd (cc)
-
--- nor does a call of the table that is to be recorded
-pub none_of_table_kept : (order : Order) (name : List ℕ) → order.file ≡ Some name
-    → tree_words order.words ≡ None → typed_call order.words ≡ None → AsksForNone order
-none_of_table_kept order name kept none untyped exchange (tree unkept text is asks) =
-    both_words order text is none
-none_of_table_kept order name kept none untyped exchange (typed plain call is by) =
-    both_calls order call is untyped
-none_of_table_kept order name kept none untyped exchange (table unkept plain request is by) =
-    file_clash order.file name kept unkept
 
 -- ---- calls with JSON
 
 pub operation_asks : (order : Order) (name version : List ℕ) (hex : Option (List ℕ)) (payload : List ℕ)
     (id : Option (List ℕ)) (call : OperationCall) (request : Option (List ℕ))
-    → is_some order.file ≡ false →
-    tree_words order.words ≡ Some (an_operation name version hex payload) →
+    → tree_words order.words ≡ Some (an_operation name version hex payload) →
     item_id hex ≡ Some id → Asks name version id payload (request_of call)
     → request ≡ operation_bytes (request_of call) order.settings.credential
     → Requests order (found.Operation call AsTree) request
-operation_asks order name version hex payload id call request unkept is given asks message =
+operation_asks order name version hex payload id call request is given asks message =
     let P : Option (List ℕ) → Type 0 = λ i. Asks name version i payload (request_of call) in
     record {
-      asks = tree (none_in order.file unkept) (an_operation name version hex payload) is (
+      asks = tree (an_operation name version hex payload) is (
         request_of call,
         given ∙ ap (λ (i : Option (List ℕ)). Some i) asks.id_is,
         subst P asks.id_is asks,
@@ -263,13 +223,13 @@ pub none_with_id : (order : Order) (name version : List ℕ) (hex : Option (List
     (id : Option (List ℕ)) → tree_words order.words ≡ Some (an_operation name version hex payload) →
     item_id hex ≡ Some id → ((request : TreeRequest) → Asks name version id payload request → ⊥)
     → AsksForNone order
-none_with_id order name version hex payload id is given none exchange (tree unkept other are asks) =
+none_with_id order name version hex payload id is given none exchange (tree other are asks) =
     let P : TreeText → Type 0 = λ t. AsksTree order.settings t exchange in
     none_of_words order.settings name version hex payload id exchange given none
     (subst P (same_text order other (an_operation name version hex payload) are is) asks)
 none_with_id order name version hex payload id is given none exchange (typed plain call found_is by) =
     both_words order (an_operation name version hex payload) is plain
-none_with_id order name version hex payload id is given none exchange (table unkept plain request found_is by) =
+none_with_id order name version hex payload id is given none exchange (table plain request found_is by) =
     both_words order (an_operation name version hex payload) is plain
 
 id_clash : {G : Type 0} (hex id : Option (List ℕ)) → item_id hex ≡ Some id → item_id hex ≡ None → G
@@ -285,35 +245,35 @@ none_of_hex settings name version hex payload exchange none (request, found_is, 
 pub none_without_id : (order : Order) (name version : List ℕ) (hex : Option (List ℕ)) (payload : List ℕ)
     → tree_words order.words ≡ Some (an_operation name version hex payload) → item_id hex ≡ None
     → AsksForNone order
-none_without_id order name version hex payload is none exchange (tree unkept other are asks) =
+none_without_id order name version hex payload is none exchange (tree other are asks) =
     let P : TreeText → Type 0 = λ t. AsksTree order.settings t exchange in
     none_of_hex order.settings name version hex payload exchange none
     (subst P (same_text order other (an_operation name version hex payload) are is) asks)
 none_without_id order name version hex payload is none exchange (typed plain call found_is by) =
     both_words order (an_operation name version hex payload) is plain
-none_without_id order name version hex payload is none exchange (table unkept plain request found_is by) =
+none_without_id order name version hex payload is none exchange (table plain request found_is by) =
     both_words order (an_operation name version hex payload) is plain
 
 pub message_asks : (order : Order) (text : List ℕ) (whole : Tree) (request : Option (List ℕ))
-    → is_some order.file ≡ false → tree_words order.words ≡ Some (a_message text) →
+    → tree_words order.words ≡ Some (a_message text) →
     IsMessageText text whole → request ≡ whole_bytes whole → Requests order (found.Message whole) request
-message_asks order text whole request unkept is means message = record {
-  asks = tree (none_in order.file unkept) (a_message text) is (whole, means, refl);
+message_asks order text whole request is means message = record {
+  asks = tree (a_message text) is (whole, means, refl);
   message = message;
 }
-
-kept_clash : {G : Type 0} (order : Order) → is_some order.file ≡ true → order.file ≡ None → G
-kept_clash order kept none = absurd (cc)
-
--- a call whose payload or message is in JSON is not recorded
-pub none_kept : (order : Order) (text : TreeText) → is_some order.file ≡ true
-    → tree_words order.words ≡ Some text → AsksForNone order
-none_kept order text kept is exchange (tree none other are asks) = kept_clash order kept none
-none_kept order text kept is exchange (typed plain call found_is by) = both_words order text is plain
-none_kept order text kept is exchange (table unkept plain request found_is by) = both_words order text is plain
 
 -- what an order asks for is not nothing
 pub asked_clash : {G : Type 0} (order : Order) (asked : Asked) (request : Option (List ℕ))
     → Requests order asked request → AsksForNone order → G
 asked_clash order asked request asks none =
     absurd (none (exchange_of order.settings asked) asks.asks)
+
+-- the words that are recorded of what was found are those of what the order asks for
+pub kept_for : (order : Order) (asked : Asked) (request : Option (List ℕ)) (words : Option (List (List ℕ)))
+    → Requests order asked request →
+    words ≡ words_kept order.file order.words (exchange_of order.settings asked).without_credential →
+    (exchange : Exchange) → AsksFor order exchange →
+    words ≡ words_kept order.file order.words exchange.without_credential
+kept_for order asked request words asks is exchange given =
+    is ∙ ap (λ (k : Exchange). words_kept order.file order.words k.without_credential)
+    (asked_once order (exchange_of order.settings asked) exchange asks.asks given)

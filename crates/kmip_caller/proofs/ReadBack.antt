@@ -1,11 +1,12 @@
 -- A record reads back as the call of its words and its response.
-use Rattle.std.proofs.Common.{◌≡◌, ℕ, ◌/◌, ◌==◌, ℤ, List, [], ◌∷◌, ◌++◌, length, slice_index, refl, ◌∙◌, ap, sym, subst, arith, append_assoc, Bool, true, false, not, ◌&&◌, ◌||◌, cond, nat_eq, Option, Some, None, IsTrue, codes, bytes_eq}
+use Rattle.std.proofs.Common.{◌≡◌, ℕ, ◌/◌, ◌==◌, ℤ, List, [], ◌∷◌, ◌++◌, length, slice_index, refl, ◌∙◌, ap, sym, subst, arith, append_assoc, Bool, true, false, not, ◌&&◌, ◌||◌, if◌then◌else◌, cond, nat_eq, Option, Some, None, IsTrue, codes, bytes_eq}
 use Rattle.std.proofs.lemmas.Bool.{and_parts, eqb-true}
 use Rattle.std.proofs.lemmas.Bool.Decides.{nat_tests}
 use Rattle.std.proofs.lemmas.List.Elements.{All-cons, All-nil}
 use Rattle.std.proofs.lemmas.List.Folds.{list_any_none}
 use Rattle.std.proofs.lemmas.List.Splits.{slice_split_none, slice_split_at}
 use Rattle.std.proofs.lemmas.Str.{IsUtf8-from_is_utf8, is_utf8-from_IsUtf8, IsUtf8-append, IsUtf8-take, IsUtf8-from_ascii, IsCharBoundary-at_seam}
+use Rattle.std.proofs.lemmas.Slice.Eq.{bytes_eq-Decides}
 use Rattle.std.proofs.lemmas.Str.Ascii.{IsAscii-nil, IsAscii-cons}
 use Rattle.std.proofs.Math.Seq.{take-append_seam}
 use Rattle.std.specs.List.{All, AllPass, list_any, slice_split}
@@ -18,8 +19,10 @@ use Rattle.kmip_words.specs.Values.{int_of, bytes_of, word_text}
 use Rattle.kmip_words.specs.Asked.{asked_in}
 use Rattle.kmip_words.specs.Refusals.{why_refused}
 use Rattle.kmip_words.specs.Calls.{with_response, call_of_one, call_of_two, call_of_three, call_of_words, call_from, call_of, call_in, locate_of, attributes_of, create_aes_of, plain_call, or_request, unless_refused, typed_call}
+use Rattle.kmip_words.specs.Exchange.{request_asked, or_empty}
 use Rattle.kmip_words.specs.declared.call.Call.{Call}
-use Rattle.kmip_caller.specs.Record.{with_spaces, response_word, record_line, is_call, has_byte, is_script_word, are_script_words, is_recordable, is_unscripted, ReadsBack}
+use Rattle.kmip_words.specs.declared.call.Recorded.{Recorded}
+use Rattle.kmip_caller.specs.Record.{with_spaces, response_word, record_line, is_call, has_byte, is_script_word, are_script_words, call_read, is_recordable, is_unscripted, raw_words, sends, is_raw, ReadsBack}
 
 -- ---- tests
 
@@ -218,10 +221,15 @@ spaces_have_none (word ∷ words) good =
     any_append (λ c. c == 10) word (32 ∷ with_spaces words) (is_word word both.0).no_line_feed
     (spaces_have_none words both.1)
 
+line_by : (good : Bool) (call : Option Recorded) → is_call (if good then call else None) ≡ true
+    → (good ≡ true) × (is_call call ≡ true)
+line_by true call is = (refl, is)
+line_by false call is = absurd (cc)
+
 pub back : (words : List (List ℕ)) (response : List ℕ) → IsTrue (is_recordable words)
     → IsBytes response → ReadsBack words response
 back words response recordable bytes =
-    let both = and_parts (are_script_words words) (is_call (call_of (record_line words []))) recordable in
+    let both = line_by (are_script_words words) (call_of (record_line words [])) recordable in
     let dash : IsLast (codes "-") = record { some = refl; no_space = refl } in
     let utf8 : is_utf8 (with_spaces words ++ codes "-") ≡ true = utf8_of (record_line words []) both.1 in
     let first : call_of (record_line words [])
@@ -242,6 +250,51 @@ back words response recordable bytes =
           ∙ with_both (call_in words) (bytes_of (response_word response)) it.0 response it.1
           (bytes_back response bytes);
     }
+
+-- ---- the line of a request's bytes
+
+sent_by : (request : List ℕ) (read : Option Recorded) → sends request read ≡ true
+    → (it : Recorded) × (read ≡ Some it) × (or_empty (request_asked it.call None).message ≡ request)
+sent_by request (Some it) sent =
+    (it, refl, (bytes_eq-Decides (or_empty (request_asked it.call None).message) request).0 sent)
+sent_by request None sent = absurd (cc)
+
+is_call_by : (read : Option Recorded) (it : Recorded) → read ≡ Some it → is_call read ≡ true
+is_call_by read it is = rw is refl
+
+chosen : (good : Bool) (read : Option Recorded) (it : Recorded)
+    → (if good then read else None) ≡ Some it → read ≡ Some it
+chosen true read it is = is
+chosen false read it is = absurd (cc)
+
+same_read : (read : Option Recorded) (a b : Recorded) → read ≡ Some a → read ≡ Some b → a ≡ b
+same_read read a b first second = cc
+
+same_call : (words : List (List ℕ)) (a b : Call) → call_in words ≡ Some a → call_in words ≡ Some b → a ≡ b
+same_call words a b first second = cc
+
+no_bytes : IsBytes []
+no_bytes i = omega arith
+
+pub raw : (request response : List ℕ) → IsTrue (is_raw request) → IsBytes response
+    → (line : ReadsBack (raw_words request) response)
+    × (or_empty (request_asked line.call None).message ≡ request)
+raw request response is bytes =
+    let words : List (List ℕ) = raw_words request in
+    let sent = sent_by request (call_read words) is in
+    let recordable : is_recordable words ≡ true = is_call_by (call_read words) sent.0 sent.1 in
+    let empty : ReadsBack words [] = back words [] recordable no_bytes in
+    let line : ReadsBack words response = back words response recordable bytes in
+    let of_empty : Recorded = record { call = empty.call; response = [] } in
+    let read : sent.0 ≡ of_empty =
+    same_read (call_of (record_line words [])) sent.0 of_empty
+    (chosen (are_script_words words) (call_of (record_line words [])) sent.0 sent.1) empty.back in
+    let same : sent.0.call ≡ line.call =
+    ap (λ (r : Recorded). r.call) read
+    ∙ same_call words empty.call line.call empty.call_is line.call_is in (
+      line,
+      ap (λ (c : Call). or_empty (request_asked c None).message) (sym same) ∙ sent.2,
+    )
 
 -- ---- the call of words that a script has
 

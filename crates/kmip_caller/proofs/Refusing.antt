@@ -6,20 +6,18 @@ use Rattle.kmip_link.specs.State.{SinkState, FaultCountRose}
 use Rattle.kmip_words.specs.Streams.{WrotePart}
 use Rattle.kmip_words.specs.JsonLines.{IsGrammarLine}
 use Rattle.kmip_words.proofs.JsonLines.{error_line_by}
-use Rattle.kmip_words.specs.Calls.{typed_call}
 use Rattle.kmip_operations.specs.Calls.{operation_named, version_written}
 use Rattle.kmip_caller.specs.TreeWords.{TreeText, an_operation, a_message, tree_words, item_id}
 use Rattle.kmip_caller.specs.declared.command.Order.{Order}
 use Rattle.kmip_caller.specs.declared.status.Status.TheVariants.{NoCall, OutOfMemory}
 use Rattle.kmip_words.specs.Complaints.{refusal as words_refusal}
 use Rattle.kmip_words.specs.Options.{Given}
-use Rattle.kmip_words.specs.declared.call.Call.{Call}
 use Rattle.kmip_operation_words.specs.Calls.{row_in}
 use Rattle.kmip_operation_words.specs.Refusals.{IsWrong, with_form, IsRefusal as IsTableRefusal}
 use Rattle.kmip_operation_words.specs.Rows.{Row}
 use Rattle.kmip_operation_words.specs.Table.{calls}
 use Rattle.kmip_caller.specs.TableWords.{with_id, is_of_table}
-use Rattle.kmip_caller.specs.Refusal.{IsWrongBy, IsWrongTree, IsNoTree, IsWrongRow, IsNoRow, IsUntyped, IsNotTyped, IsWhyNotBy, IsWhyNot, IsRefusal, IsRefusalWritten, grammar_line}
+use Rattle.kmip_caller.specs.Refusal.{IsWrongBy, IsWrongTree, IsWrongRow, IsNoRow, IsUntyped, IsWhyNotBy, IsWhyNot, IsRefusal, IsRefusalWritten, grammar_line}
 use Rattle.kmip_caller.proofs.Exchanges.{append_none}
 
 -- nothing at all is a first part of a text
@@ -37,10 +35,6 @@ wrong_tree (an_operation name version hex payload) =
     wrong_by (is_none (operation_named name)) (is_none (version_written version)) (is_none (item_id hex))
 wrong_tree (a_message message) = (codes "the message: " ++ [], ([], refl))
 
-no_tree : (file : Option (List ℕ)) (words : TreeText) → (text : List ℕ) × IsNoTree file words text
-no_tree (Some file) words = (codes "a record cannot hold these words", refl)
-no_tree None words = wrong_tree words
-
 some_wrong : (row : Option Row) → (text : List ℕ) × IsWrong row text
 some_wrong (Some row) =
     (with_form row [], ([], refl))
@@ -54,28 +48,23 @@ wrong_row : (no_id : Bool) (words : List (List ℕ)) → (text : List ℕ) × Is
 wrong_row true words = (codes "item-id= takes an even number of hex digits, at least two", refl)
 wrong_row false words = some_table_refusal words
 
-no_row : (file : Option (List ℕ)) (given : Given) → (text : List ℕ) × IsNoRow file given text
-no_row (Some file) given = (codes "a record cannot hold these words", refl)
-no_row None given = wrong_row (is_none (item_id given.value)) given.rest
+no_row : (given : Given) → (text : List ℕ) × IsNoRow given text
+no_row given = wrong_row (is_none (item_id given.value)) given.rest
 
-untyped : (of_table : Bool) (order : Order) → (text : List ℕ) × IsUntyped of_table order text
-untyped true order = no_row order.file (with_id order.words)
-untyped false order = (words_refusal order.words, refl)
+untyped : (of_table : Bool) (words : List (List ℕ)) → (text : List ℕ) × IsUntyped of_table words text
+untyped true words = no_row (with_id words)
+untyped false words = (words_refusal words, refl)
 
-not_typed : (call : Option Call) (order : Order) → (text : List ℕ) × IsNotTyped call order text
-not_typed (Some call) order = (codes "a record cannot hold these words", refl)
-not_typed None order = untyped (is_of_table order.words) order
-
-why_not_by : (words : Option TreeText) (order : Order) → (text : List ℕ) × IsWhyNotBy words order text
-why_not_by (Some words) order = no_tree order.file words
-why_not_by None order = not_typed (typed_call order.words) order
+why_not_by : (tree : Option TreeText) (words : List (List ℕ)) → (text : List ℕ) × IsWhyNotBy tree words text
+why_not_by (Some tree) words = wrong_tree tree
+why_not_by None words = untyped (is_of_table words) words
 
 refusal_of : (order : Order) → ((text : List ℕ) × IsWhyNot order text)
     → (line : List ℕ) × IsRefusal order line
 refusal_of order (text, why) = (grammar_line text, (text, why, refl))
 
 some_refusal : (order : Order) → (line : List ℕ) × IsRefusal order line
-some_refusal order = refusal_of order (why_not_by (tree_words order.words) order)
+some_refusal order = refusal_of order (why_not_by (tree_words order.words) order.words)
 
 no_call_made : OutOfMemory ≡ NoCall → ⊥
 no_call_made e = cc

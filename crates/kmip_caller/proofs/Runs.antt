@@ -1,8 +1,9 @@
 -- What the parts of the program did, put together.
-use Rattle.std.proofs.Common.{◌≡◌, inl, inr, ℕ, List, refl, subst, Option}
+use Rattle.std.proofs.Common.{◌≡◌, inl, inr, ℕ, List, refl, ap, subst, Option}
 use Rattle.kmip_link.specs.State.{SourceState, SinkState}
 use Rattle.kmip_words.specs.declared.ending.Ending.{Ending}
 use Rattle.kmip_caller.specs.Exchange.{Exchange, Carried, CarriedPart}
+use Rattle.kmip_caller.specs.Record.{words_kept, record_with}
 use Rattle.kmip_caller.specs.Asked.{AsksFor, AsksForNone}
 use Rattle.kmip_caller.specs.Program.{Makes, Streams, streams, Refuses, Reports, Runs}
 use Rattle.kmip_caller.specs.declared.command.Order.{Order}
@@ -13,10 +14,14 @@ use Rattle.kmip_caller.proofs.Refusing.{nothing_written}
 
 -- a call was made and reported
 pub made : (order : Order) (w0 w1 : SinkState) (s0 s1 : SourceState) (f0 f1 k0 k1 : SinkState)
-    (response : Option (List ℕ)) (line : List ℕ) (ending : Ending) (status : Status) →
-    Makes order w0 w1 s0 s1 response line ending → Reports order response line ending f0 f1 k0 k1 status →
+    (words : Option (List (List ℕ))) (response : Option (List ℕ)) (line : List ℕ) (ending : Ending)
+    (status : Status) → Makes order w0 w1 s0 s1 response line ending →
+    ((exchange : Exchange) → AsksFor order exchange
+    → words ≡ words_kept order.file order.words exchange.without_credential) →
+    Reports (record_with words response) line ending f0 f1 k0 k1 status →
     Runs order (streams w0 s0 f0 k0) (streams w1 s1 f1 k1) status
-made order w0 w1 s0 s1 f0 f1 k0 k1 response line ending status it reports =
+made order w0 w1 s0 s1 f0 f1 k0 k1 words response line ending status it kept reports =
+    let R : List ℕ → Type 0 = λ entry. Reports entry line ending f0 f1 k0 k1 status in
     let P : Exchange → Type 0 = λ k. Carried order.settings.limit k w0 w1 s0 s1 response line ending in
     record {
       refuses = λ none. absurd (none it.exchange it.asks);
@@ -25,7 +30,8 @@ made order w0 w1 s0 s1 f0 f1 k0 k1 response line ending status it reports =
         line = line;
         ending = ending;
         carried = subst P (asked_once order it.exchange exchange it.asks asks) it.carried;
-        reports = reports;
+        reports = subst R
+            (ap (λ (w : Option (List (List ℕ))). record_with w response) (kept exchange asks)) reports;
       });
     }
 

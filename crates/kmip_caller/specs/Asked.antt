@@ -1,5 +1,5 @@
 -- What the words of an order ask for.
-use Rattle.std.specs.Prelude.{◌≡◌, ℕ, List, Bool, true, Option, Some, None, if◌then◌else◌}
+use Rattle.std.specs.Prelude.{◌≡◌, ℕ, List, Option, Some, None}
 use Rattle.kmip_wire.specs.Tree.{Tree}
 use Rattle.kmip_client.specs.Operation.{TreeRequest}
 use Rattle.kmip_words.specs.Exchange.{Settings}
@@ -7,23 +7,12 @@ use Rattle.kmip_words.specs.Calls.{typed_call}
 use Rattle.kmip_words.specs.declared.call.Call.{Call}
 use Rattle.kmip_plain.specs.declared.payload.PayloadForm.TheVariants.{Tree as AsTree, Plain as AsPlain}
 use Rattle.kmip_operations.specs.Calls.{Asks, IsMessageText, request_of}
-use Rattle.kmip_caller.specs.Record.{is_recordable, recorded_words}
 use Rattle.kmip_caller.specs.TreeWords.{TreeText, an_operation, a_message, tree_words, item_id}
 use Rattle.kmip_caller.specs.TableWords.{table_words}
 use Rattle.kmip_caller.specs.Exchange.{Exchange, typed_exchange, operation_exchange, message_exchange}
 use Rattle.kmip_caller.specs.declared.command.Order.{Order}
 use Rattle.kmip_caller.specs.declared.requested.Asked.{Asked}
 use Rattle.kmip_caller.specs.declared.requested.Asked.TheVariants as asked
-
--- whether a typed call of these words may be made: where it is to be recorded, only if a script may
--- hold it
-abbrev pub is_allowed : Option (List ℕ) → List (List ℕ) → Bool
-is_allowed (Some file) words = is_recordable (recorded_words words)
-is_allowed None words = true
-
--- the typed call that is to be made
-abbrev pub call_for : Order → Option Call
-call_for order = if is_allowed order.file order.words then typed_call order.words else None
 
 -- These words, whose payload or message is in JSON, ask for this exchange.
 abbrev pub AsksTree : Settings → TreeText → Exchange → Type 0
@@ -34,16 +23,15 @@ AsksTree settings (an_operation name version hex payload) exchange =
 AsksTree settings (a_message text) exchange =
     (message : Tree) × IsMessageText text message × (exchange ≡ message_exchange settings message)
 
--- The order asks for this exchange: by such words, where it is not to be recorded; by those of a
--- typed call; or by those of the table, where it is not to be recorded, and then the payload of the
--- answer is plain JSON.
+-- The order asks for this exchange: by such words; by those of a typed call; or by those of the
+-- table, and then the payload of the answer is plain JSON.
 pub data AsksFor (order : Order) (exchange : Exchange) : Type 0 where
-  tree : order.file ≡ None → (text : TreeText) → tree_words order.words ≡ Some text →
+  tree : (text : TreeText) → tree_words order.words ≡ Some text →
       AsksTree order.settings text exchange → AsksFor order exchange
   typed : tree_words order.words ≡ None →
-      (call : Call) → call_for order ≡ Some call → exchange ≡ typed_exchange order.settings call →
+      (call : Call) → typed_call order.words ≡ Some call → exchange ≡ typed_exchange order.settings call →
       AsksFor order exchange
-  table : order.file ≡ None → tree_words order.words ≡ None →
+  table : tree_words order.words ≡ None →
       (request : TreeRequest) → table_words order.words ≡ Some request →
       exchange ≡ operation_exchange AsPlain order.settings request → AsksFor order exchange
 

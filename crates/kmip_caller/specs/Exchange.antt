@@ -21,6 +21,8 @@ use Rattle.kmip_caller.specs.Wire.{taken_at, IsOneAtMost}
 pub record Exchange : Type 0 where
   -- its one canonical message, where it has one
   pub message : Option (List ℕ)
+  -- the same without a credential, but for that of a message of the caller's
+  pub without_credential : Option (List ℕ)
   -- the line of JSON of what these bytes answer, and how the call ended
   pub line : List ℕ → List ℕ
   pub ending : List ℕ → Ending
@@ -28,6 +30,7 @@ pub record Exchange : Type 0 where
 -- a typed call of kmip_words
 abbrev pub typed_exchange : Settings → Call → Exchange
 typed_exchange settings call = record {
+  without_credential = (request_asked call None).message;
   message = (request_asked call settings.credential).message;
   line = call_line settings call;
   ending = call_ending settings call;
@@ -37,6 +40,7 @@ typed_exchange settings call = record {
 abbrev pub operation_exchange : PayloadForm → Settings → TreeRequest → Exchange
 operation_exchange form settings request = record {
   message = operation_bytes request settings.credential;
+  without_credential = operation_bytes request None;
   line = operation_json_line form settings request;
   ending = operation_ending settings request;
 }
@@ -45,6 +49,7 @@ operation_exchange form settings request = record {
 abbrev pub message_exchange : Settings → Tree → Exchange
 message_exchange settings message = record {
   message = whole_bytes message;
+  without_credential = whole_bytes message;
   line = message_json_line settings;
   ending = message_ending settings;
 }

@@ -4,7 +4,7 @@ use Rattle.kmip_link.specs.State.{SourceState, SinkState, FaultCountRose}
 use Rattle.kmip_words.specs.Streams.{WrotePart}
 use Rattle.kmip_words.specs.declared.ending.Ending.{Ending}
 use Rattle.kmip_words.specs.declared.ending.Ending.TheVariants.{Answered, Refused, Lost}
-use Rattle.kmip_caller.specs.Record.{record_of}
+use Rattle.kmip_caller.specs.Record.{words_kept, record_with}
 use Rattle.kmip_caller.specs.Refusal.{IsRefusalWritten}
 use Rattle.kmip_caller.specs.Exchange.{Exchange, Carried, CarriedPart}
 use Rattle.kmip_caller.specs.Asked.{AsksFor, AsksForNone}
@@ -55,14 +55,13 @@ pub record Refuses (order : Order) (before after : Streams) (status : Status) : 
   -- a refusal is written, unless its sink failed or memory ran out, and at most that
   pub errors : IsRefusalWritten order (status ≡ NoCall) before.errors after.errors
 
--- The record of a call with this response, and this line of its answer, were written.
-pub record Reports (order : Order) (response : Option (List ℕ)) (line : List ℕ) (ending : Ending)
-    (f0 f1 k0 k1 : SinkState) (status : Status) : Type 0 where
+-- The record of a call, which is this entry, and this line of its answer were written.
+pub record Reports (entry line : List ℕ) (ending : Ending) (f0 f1 k0 k1 : SinkState)
+    (status : Status) : Type 0 where
   pub status_is : (status ≡ Ended ending) ⊎ ((status ≡ NotWritten) ⊎ (status ≡ OutOfMemory))
   -- record: whole, or a first part of it
-  pub recorded : IsTrue (is_ended status) → IsTrue f0.tells →
-      f1.sent ≡ f0.sent ++ record_of order.file order.words response
-  pub recorded_part : IsTrue f0.tells → WrotePart f0 f1 (record_of order.file order.words response)
+  pub recorded : IsTrue (is_ended status) → IsTrue f0.tells → f1.sent ≡ f0.sent ++ entry
+  pub recorded_part : IsTrue f0.tells → WrotePart f0 f1 entry
   -- answer: whole, or a first part of it
   pub written : IsTrue (is_ended status) → IsTrue k0.tells → k1.sent ≡ k0.sent ++ line
   pub written_part : IsTrue k0.tells → WrotePart k0 k1 line
@@ -72,6 +71,11 @@ pub record Reports (order : Order) (response : Option (List ℕ)) (line : List �
   -- one of the two sinks failed
   pub cause : status ≡ NotWritten → FaultCountRose f0.faults f1.faults ⊎ FaultCountRose k0.faults k1.faults
 
+-- what is recorded of a call with this response, where a file for it is given
+abbrev pub record_of : Order → Exchange → Option (List ℕ) → List ℕ
+record_of order exchange response =
+    record_with (words_kept order.file order.words exchange.without_credential) response
+
 -- The call was made, and reported.
 pub record Made (order : Order) (exchange : Exchange) (before after : Streams) (status : Status) : Type 0 where
   pub response : Option (List ℕ)
@@ -79,8 +83,8 @@ pub record Made (order : Order) (exchange : Exchange) (before after : Streams) (
   pub ending : Ending
   pub carried : Carried order.settings.limit exchange before.wire after.wire before.source after.source
       response line ending
-  pub reports : Reports order response line ending before.kept after.kept before.errors after.errors
-      status
+  pub reports : Reports (record_of order exchange response) line ending before.kept after.kept
+      before.errors after.errors status
 
 -- Memory ran out before the call had an answer: it was carried in part, and nothing was written.
 pub record BrokenOff (limit : Option ℕ) (exchange : Exchange) (before after : Streams)

@@ -1,6 +1,7 @@
 -- The line that records a call and its response: a line of a script (docs/PROGRAM.md).
-use Rattle.std.specs.Prelude.{◌≡◌, ℕ, List, [], ◌∷◌, ◌++◌, ◌==◌, length, Bool, true, false, not, ◌&&◌, Option, Some, None, if◌then◌else◌, codes}
+use Rattle.std.specs.Prelude.{◌≡◌, ℕ, List, [], ◌∷◌, ◌++◌, ◌==◌, length, Bool, true, false, not, ◌&&◌, Option, Some, None, if◌then◌else◌, codes, bytes_eq}
 use Rattle.std.specs.List.{list_any}
+use Rattle.std.specs.Option.{option_map}
 use Rattle.hex.specs.Hex.{encode_upper}
 use Rattle.kmip_words.specs.Calls.{call_of, call_in, typed_call}
 use Rattle.kmip_words.specs.Exchange.{request_asked, or_empty}
@@ -39,9 +40,13 @@ abbrev pub are_script_words : List (List ℕ) → Bool
 are_script_words [] = true
 are_script_words (word ∷ words) = is_script_word word && are_script_words words
 
+-- the call that a script reads from the words, with an empty response after them
+abbrev pub call_read : List (List ℕ) → Option Recorded
+call_read words = if are_script_words words then call_of (record_line words []) else None
+
 -- whether the words, with a response after them, are a line of a script
 abbrev pub is_recordable : List (List ℕ) → Bool
-is_recordable words = are_script_words words && is_call (call_of (record_line words []))
+is_recordable words = is_call (call_read words)
 
 -- The record of these words with this response is one line, and a script reads from it the call of
 -- the words and the response.
@@ -52,26 +57,47 @@ pub record ReadsBack (words : List (List ℕ)) (response : List ℕ) : Type 0 wh
   pub back : call_of (record_line words response) ≡
       Some (record { call = call; response = response })
 
--- `raw` and the bytes of a call's request, without a credential: the line of a script has that of
--- whoever replays it
-abbrev pub raw_words : Call → List (List ℕ)
-raw_words call = codes "raw" ∷ encode_upper (or_empty (request_asked call None).message) ∷ []
+-- `raw` and the bytes of a request
+abbrev pub raw_words : List ℕ → List (List ℕ)
+raw_words request = codes "raw" ∷ encode_upper request ∷ []
+
+-- whether a call, where there is one, sends just these bytes where it has no credential
+abbrev pub sends : List ℕ → Option Recorded → Bool
+sends request (Some it) = bytes_eq (or_empty (request_asked it.call None).message) request
+sends request None = false
+
+-- whether `raw` of a script sends just these bytes
+abbrev pub is_raw : List ℕ → Bool
+is_raw request = sends request (call_read (raw_words request))
+
+-- the words of a request's bytes: `raw` with them, or else `message`, which no script has
+abbrev pub bytes_words : List ℕ → List (List ℕ)
+bytes_words request =
+    if is_raw request then raw_words request else codes "message" ∷ encode_upper request ∷ []
 
 -- whether a script has no words for a call
 abbrev pub is_unscripted : Call → Bool
 is_unscripted (Request payload) = true
 is_unscripted call = false
 
--- the words that are recorded for a typed call: those of its request where a script has no words
--- for it, and else those that were typed
-abbrev pub words_for : Option Call → List (List ℕ) → List (List ℕ)
-words_for (Some call) words = if is_unscripted call then raw_words call else words
-words_for None words = words
+-- whether a typed call is recorded by the words that were typed: a script has words for it, and may
+-- hold these
+abbrev pub is_as_typed : Option Call → List (List ℕ) → Bool
+is_as_typed (Some call) words = not (is_unscripted call) && is_recordable words
+is_as_typed None words = false
 
-abbrev pub recorded_words : List (List ℕ) → List (List ℕ)
-recorded_words words = words_for (typed_call words) words
+-- the words that are recorded of a call: those that were typed, or else those of the bytes of its
+-- request, where it has a wire form
+abbrev pub recorded_words : List (List ℕ) → Option (List ℕ) → Option (List (List ℕ))
+recorded_words words request =
+    if is_as_typed (typed_call words) words then Some words else option_map bytes_words request
 
--- what is recorded of a call with this response, where a file for it is given
-abbrev pub record_of : Option (List ℕ) → List (List ℕ) → Option (List ℕ) → List ℕ
-record_of (Some file) words (Some response) = record_text (recorded_words words) response
-record_of file words response = []
+-- the same where a file for the record is given, and none where it is not
+abbrev pub words_kept : Option (List ℕ) → List (List ℕ) → Option (List ℕ) → Option (List (List ℕ))
+words_kept (Some file) words request = recorded_words words request
+words_kept None words request = None
+
+-- what is written of the words that are recorded, and of the response
+abbrev pub record_with : Option (List (List ℕ)) → Option (List ℕ) → List ℕ
+record_with (Some words) (Some response) = record_text words response
+record_with words response = []

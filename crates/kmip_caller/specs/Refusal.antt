@@ -5,9 +5,7 @@ use Rattle.kmip_shape.specs.Shown.{text_in_style}
 use Rattle.kmip_shape.specs.declared.style.Style.TheVariants.{Json}
 use Rattle.kmip_link.specs.State.{SinkState, FaultCountRose}
 use Rattle.kmip_words.specs.Streams.{WrotePart}
-use Rattle.kmip_words.specs.Calls.{typed_call}
 use Rattle.kmip_words.specs.Complaints.{refusal as words_refusal}
-use Rattle.kmip_words.specs.declared.call.Call.{Call}
 use Rattle.kmip_words.specs.Options.{Given}
 use Rattle.kmip_operations.specs.Calls.{operation_named, version_written}
 use Rattle.kmip_operation_words.specs.Refusals.{IsRefusal as IsTableRefusal}
@@ -20,26 +18,19 @@ abbrev pub grammar_line : List ℕ → List ℕ
 grammar_line text =
     codes "{\"error\":\"GrammarError\",\"text\":" ++ (text_in_style text Json ++ codes "}\n")
 
--- why no call of the table is made: it is to be recorded, the Unique Batch Item ID in front is none, or
--- its words are wrong
+-- why no call of the table is made: the Unique Batch Item ID in front is none, or its words are wrong
 abbrev pub IsWrongRow : Bool → List (List ℕ) → List ℕ → Type 0
 IsWrongRow true words text =
     text ≡ codes "item-id= takes an even number of hex digits, at least two"
 IsWrongRow false words text = IsTableRefusal words text
 
-abbrev pub IsNoRow : Option (List ℕ) → Given → List ℕ → Type 0
-IsNoRow (Some file) given text = text ≡ codes "a record cannot hold these words"
-IsNoRow None given text = IsWrongRow (is_none (item_id given.value)) given.rest text
+abbrev pub IsNoRow : Given → List ℕ → Type 0
+IsNoRow given text = IsWrongRow (is_none (item_id given.value)) given.rest text
 
--- why none is made of words that are no typed call: those of the table, and others
-abbrev pub IsUntyped : Bool → Order → List ℕ → Type 0
-IsUntyped true order text = IsNoRow order.file (with_id order.words) text
-IsUntyped false order text = text ≡ words_refusal order.words
-
--- and of others than those with JSON: a record cannot hold a typed call, or they are none
-abbrev pub IsNotTyped : Option Call → Order → List ℕ → Type 0
-IsNotTyped (Some call) order text = text ≡ codes "a record cannot hold these words"
-IsNotTyped None order text = IsUntyped (is_of_table order.words) order text
+-- why none is made of words with no JSON: those of the table, and others
+abbrev pub IsUntyped : Bool → List (List ℕ) → List ℕ → Type 0
+IsUntyped true words text = IsNoRow (with_id words) text
+IsUntyped false words text = text ≡ words_refusal words
 
 -- what is said of a payload or a message that is none: what it is, and why
 abbrev pub IsNotRead : List ℕ → List ℕ → Type 0
@@ -60,23 +51,18 @@ IsWrongOperation name version hex text =
     IsWrongBy (is_none (operation_named name)) (is_none (version_written version))
     (is_none (item_id hex)) text
 
--- and of one whose payload or message is in JSON
+-- why none is made whose payload or message is in JSON
 abbrev pub IsWrongTree : TreeText → List ℕ → Type 0
 IsWrongTree (an_operation name version hex payload) text = IsWrongOperation name version hex text
 IsWrongTree (a_message message) text = IsNotRead (codes "the message: ") text
 
--- why none such is made: it is to be recorded, or one of the words is wrong
-abbrev pub IsNoTree : Option (List ℕ) → TreeText → List ℕ → Type 0
-IsNoTree (Some file) words text = text ≡ codes "a record cannot hold these words"
-IsNoTree None words text = IsWrongTree words text
-
-abbrev pub IsWhyNotBy : Option TreeText → Order → List ℕ → Type 0
-IsWhyNotBy (Some words) order text = IsNoTree order.file words text
-IsWhyNotBy None order text = IsNotTyped (typed_call order.words) order text
+abbrev pub IsWhyNotBy : Option TreeText → List (List ℕ) → List ℕ → Type 0
+IsWhyNotBy (Some tree) words text = IsWrongTree tree text
+IsWhyNotBy None words text = IsUntyped (is_of_table words) words text
 
 -- why nothing that the order asks for is made
 abbrev pub IsWhyNot : Order → List ℕ → Type 0
-IsWhyNot order text = IsWhyNotBy (tree_words order.words) order text
+IsWhyNot order text = IsWhyNotBy (tree_words order.words) order.words text
 
 -- the line that says it
 abbrev pub IsRefusal : Order → List ℕ → Type 0

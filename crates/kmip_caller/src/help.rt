@@ -51,7 +51,6 @@ whose JSON or XML MESSAGE is, as it stands; the answer is the whole response.
 The calls that --operations prints are operations by words. Their answer is the
 response's payload as plain JSON, with a member for each tag of its items, as
 {\"unique_identifier\":\"8\",\"data\":\"00FF\"}; item-id= may stand before their name.
-Neither these calls nor `operation` and `message` can be recorded.
 
 @FILE in the place of HEX, DATA, MAC, SIGNATURE, PAYLOAD or MESSAGE stands for
 what that file has, its bytes or its JSON, and @3 for what descriptor 3 has up
@@ -62,8 +61,9 @@ user=U, password=P   the credential of the request; without password=P the
 limit=N              the most bytes that a response may have, its head counted;
                      without it 1048576, and with limit=0 there is no limit
 record=FILE          adds CALL and the response to FILE, as a line that
-                     `kmip_run replay` reads; a FILE that is not there is made
-                     for its owner alone, and it is locked for the call
+                     `kmip_run replay` reads, or `message REQUEST RESPONSE`
+                     where that has no such call; a FILE that is not there is
+                     made for its owner alone, and it is locked for the call
 
 Status   0 answered   1 refused   2 the words are no call: nothing was sent
          3 the connection is lost   4 the answer or record is not written

@@ -1,20 +1,21 @@
 //! The line that records a call and its response, as `kmip_run replay` reads it.
-ghost use Rattle.std.specs.Prelude.{◌≡◌, ◌++◌, ℕ, [], List as TheList, false, codes, Some};
+ghost use Rattle.std.specs.Prelude.{◌≡◌, ◌∷◌, ◌++◌, ℕ, [], List as TheList, false, Some, None};
 ghost use Rattle.std.specs.Prelude.{IfOk, OnOk, IsErrOf, IsTrue};
-ghost use Rattle.hex.specs.Hex.{IsBytes};
+ghost use Rattle.hex.specs.Hex.{IsBytes, encode_upper};
 ghost use Rattle.kmip_link.specs.State.{FaultCountRose};
 ghost use Rattle.kmip_words.specs.Calls.{call_in, typed_call};
-ghost use Rattle.kmip_words.specs.Exchange.{or_empty};
+ghost use Rattle.kmip_words.specs.Exchange.{request_asked, or_empty};
 ghost use Rattle.kmip_words.specs.Streams.{WrotePart};
 ghost use Rattle.kmip_words.specs.declared.call.Call.{Call as TheCall};
 ghost use Rattle.kmip_caller.specs.Record.{with_spaces, response_word, record_line, has_byte};
 ghost use Rattle.kmip_caller.specs.Record.{is_script_word, are_script_words, is_recordable};
-ghost use Rattle.kmip_caller.specs.Record.{raw_words, is_unscripted};
-ghost use Rattle.kmip_caller.specs.Record.{words_for, recorded_words, record_text, ReadsBack};
+ghost use Rattle.kmip_caller.specs.Record.{call_read, raw_words, sends, is_raw, bytes_words};
+ghost use Rattle.kmip_caller.specs.Record.{is_unscripted, is_as_typed};
+ghost use Rattle.kmip_caller.specs.Record.{recorded_words, record_text, ReadsBack};
 
 use kmip_link::{LinkError, Sink};
 use kmip_wire::{Blob, List, OutOfMemory, Text, clone_items};
-use kmip_words::{Call, Settings, call_of, request_of, typed_call, write_out};
+use kmip_words::{Call, Recorded, Settings, call_of, request_of, typed_call, write_out};
 use std::alloc::Global;
 
 /// Adds the words, each with a space after it.
@@ -49,13 +50,11 @@ fn record_line(alloc: Global, words: &[Text], response: &[u8]) -> Result<Text, O
     Ok(line)
 }
 
-/// The same with a line feed, of the words that are recorded for these.
+/// The same with a line feed.
 fn record_text(alloc: Global, words: &[Text], response: &[u8]) -> Result<Text, OutOfMemory>
-    ensures { IfOk result
-        (λ line. line ≡ record_text (recorded_words words.now) response.now) }
+    ensures { IfOk result (λ line. line ≡ record_text words.now response.now) }
 {
-    let words = recorded_words(alloc, words)?;
-    let mut line = record_line(alloc, words.as_slice(), response)?;
+    let mut line = record_line(alloc, words, response)?;
     line.push_str("\n")?;
     Ok(line)
 }
@@ -84,16 +83,24 @@ fn are_script_words(words: &[Text]) -> bool
     }
 }
 
-/// Whether a script may hold these words as a call: no word is empty or has a space or a line feed,
-/// and the call is one of a script.
-pub fn is_recordable(alloc: Global, words: &[Text]) -> Result<bool, OutOfMemory>
-    ensures { IfOk result (λ recordable. recordable ≡ is_recordable words.now) }
+/// The call that a script reads from these words, with an empty response after them; `None` where it
+/// reads none, or may not hold one of the words.
+fn call_read(alloc: Global, words: &[Text]) -> Result<Option<Recorded>, OutOfMemory>
+    ensures { IfOk result (λ call. call ≡ call_read words.now) }
 {
     if !are_script_words(words) {
-        return Ok(false);
+        return Ok(None);
     }
     let line = record_line(alloc, words, &[])?;
-    match call_of(alloc, line.as_str().as_bytes())? {
+    call_of(alloc, line.as_str().as_bytes())
+}
+
+/// Whether a script may hold these words as a call: no word is empty or has a space or a line feed,
+/// and the call is one of a script.
+fn is_recordable(alloc: Global, words: &[Text]) -> Result<bool, OutOfMemory>
+    ensures { IfOk result (λ recordable. recordable ≡ is_recordable words.now) }
+{
+    match call_read(alloc, words)? {
         Some(_) => Ok(true),
         None => Ok(false),
     }
@@ -109,17 +116,43 @@ fn or_empty(request: &Option<Blob>) -> &[u8]
     }
 }
 
-/// `raw` and the bytes of a call's request, without a credential.
-fn raw_words(alloc: Global, call: &Call) -> Result<List<Text>, OutOfMemory>
-    ensures { IfOk result (λ words. words ≡ raw_words call.now) }
+/// A word, and the bytes of a request in upper-case hex.
+fn hex_words(alloc: Global, word: &str, request: &[u8]) -> Result<List<Text>, OutOfMemory>
+    ensures { IfOk result (λ words. words ≡ word.now ∷ encode_upper request.now ∷ []) }
 {
-    let settings = Settings::new(None, None, None);
-    let request = request_of(alloc, &settings, call)?;
-    let text = hex::encode_upper(alloc, or_empty(&request))?;
+    let text = hex::encode_upper(alloc, request)?;
     let mut words = List::new(alloc);
-    words.push(Text::of(alloc, "raw")?)?;
+    words.push(Text::of(alloc, word)?)?;
     words.push(Text::of(alloc, text.as_str())?)?;
     Ok(words)
+}
+
+/// Whether a call, where there is one, sends just these bytes where it has no credential.
+fn sends(alloc: Global, request: &[u8], call: &Option<Recorded>) -> Result<bool, OutOfMemory>
+    ensures { IfOk result (λ it. it ≡ sends request.now call.now) }
+{
+    match call {
+        Some(recorded) => {
+            let settings = Settings::new(None, None, None);
+            let sent = request_of(alloc, &settings, &recorded.call)?;
+            Ok(or_empty(&sent) == request)
+        }
+        None => Ok(false),
+    }
+}
+
+/// The words of a request's bytes: `raw` with them, where a script then sends just these bytes, and
+/// else `message`, which no script has.
+fn bytes_words(alloc: Global, request: &[u8]) -> Result<List<Text>, OutOfMemory>
+    ensures { IfOk result (λ words. words ≡ bytes_words request.now) }
+{
+    let words = hex_words(alloc, "raw", request)?;
+    let call = call_read(alloc, words.as_slice())?;
+    if sends(alloc, request, &call)? {
+        Ok(words)
+    } else {
+        hex_words(alloc, "message", request)
+    }
 }
 
 /// Whether a script has no words for a call.
@@ -129,26 +162,37 @@ fn is_unscripted(call: &Call) -> bool
     matches!(call, Call::Request { .. })
 }
 
-/// The words that are recorded for a typed call of these words: those that were typed, and for
-/// `locate`, `attributes`, `create-aes`, `discover` and calls with options, which a script does not
-/// have, `raw` and the bytes of the request.
-pub fn words_for(alloc: Global, call: &Call, words: &[Text]) -> Result<List<Text>, OutOfMemory>
-    ensures { IfOk result (λ recorded. recorded ≡ words_for (Some call.now) words.now) }
+/// Whether a typed call is recorded by the words that were typed: a script has words for it, and may
+/// hold these.
+fn is_as_typed(alloc: Global, call: &Option<Call>, words: &[Text]) -> Result<bool, OutOfMemory>
+    ensures { IfOk result (λ it. it ≡ is_as_typed call.now words.now) }
 {
+    let Some(call) = call else {
+        return Ok(false);
+    };
     if is_unscripted(call) {
-        raw_words(alloc, call)
-    } else {
-        clone_items(words, alloc)
+        return Ok(false);
     }
+    is_recordable(alloc, words)
 }
 
-/// The words that are recorded for these.
-fn recorded_words(alloc: Global, words: &[Text]) -> Result<List<Text>, OutOfMemory>
-    ensures { IfOk result (λ recorded. recorded ≡ recorded_words words.now) }
+/// The words that are recorded of a call of these words: those that were typed, where a script may
+/// hold them as a typed call, and else those of the bytes of its request without a credential, where
+/// there is one.
+pub fn recorded_words(
+    alloc: Global,
+    words: &[Text],
+    request: &Option<Blob>,
+) -> Result<Option<List<Text>>, OutOfMemory>
+    ensures { IfOk result (λ recorded. recorded ≡ recorded_words words.now request.now) }
 {
-    match typed_call(alloc, words)? {
-        Some(call) => words_for(alloc, &call, words),
-        None => clone_items(words, alloc),
+    let call = typed_call(alloc, words)?;
+    if is_as_typed(alloc, &call, words)? {
+        return Ok(Some(clone_items(words, alloc)?));
+    }
+    match request {
+        Some(request) => Ok(Some(bytes_words(alloc, request.as_slice())?)),
+        None => Ok(None),
     }
 }
 
@@ -161,10 +205,10 @@ pub fn write_record<F: Sink>(
 ) -> Result<(), LinkError>
     ensures ok { OnOk result (IsTrue (F.state kept.old).tells →
         (F.state kept.new).sent ≡ (F.state kept.old).sent
-        ++ record_text (recorded_words words.now) response.now) }
+        ++ record_text words.now response.now) }
     ensures part { IsTrue (F.state kept.old).tells →
         WrotePart (F.state kept.old) (F.state kept.new)
-        (record_text (recorded_words words.now) response.now) }
+        (record_text words.now response.now) }
     ensures cause { IsErrOf result LinkError.Fault →
         FaultCountRose (F.state kept.old).faults (F.state kept.new).faults }
 {
@@ -175,11 +219,15 @@ pub fn write_record<F: Sink>(
 }
 
 /// A record of words that a script may hold, with any response, is one line, from which a script
-/// reads the call of these words and the response. And words that are recorded as they were typed
-/// have the call that was typed.
+/// reads the call of these words and the response; words that are recorded as they were typed have
+/// the call that was typed. And one of a request that `raw` reads is such a line, whose call sends
+/// the bytes of the request, where it has no credential.
 pub fn records_read_back()
     ensures back { (words : TheList (TheList ℕ)) (response : TheList ℕ) →
         IsTrue (is_recordable words) → IsBytes response → ReadsBack words response }
     ensures typed { (words : TheList (TheList ℕ)) (call : TheCall) →
         typed_call words ≡ Some call → is_unscripted call ≡ false → call_in words ≡ Some call }
+    ensures raw { (request response : TheList ℕ) → IsTrue (is_raw request) → IsBytes response →
+        (back : ReadsBack (raw_words request) response)
+        × (or_empty (request_asked back.call None).message ≡ request) }
 {}

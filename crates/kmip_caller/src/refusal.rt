@@ -2,10 +2,9 @@
 ghost use Rattle.std.specs.Prelude.{◌≡◌, ◌++◌, ◌⊎◌, ℕ, List, codes, option_map, IfOk, IsTrue};
 ghost use Rattle.kmip_words.specs.Streams.{WrotePart};
 ghost use Rattle.kmip_link.specs.State.{FaultCountRose};
-ghost use Rattle.kmip_words.specs.Calls.{typed_call};
 ghost use Rattle.kmip_caller.specs.Refusal.{grammar_line};
-ghost use Rattle.kmip_caller.specs.Refusal.{IsWrongRow, IsNoRow, IsUntyped, IsNotTyped};
-ghost use Rattle.kmip_caller.specs.Refusal.{IsNotRead, IsWrongOperation, IsWrongTree, IsNoTree};
+ghost use Rattle.kmip_caller.specs.Refusal.{IsWrongRow, IsNoRow, IsUntyped};
+ghost use Rattle.kmip_caller.specs.Refusal.{IsNotRead, IsWrongOperation, IsWrongTree};
 ghost use Rattle.kmip_caller.specs.Refusal.{IsWhyNot, IsRefusalWritten, IsRefusal};
 ghost use Rattle.std.specs.Option.{is_none};
 ghost use Rattle.kmip_caller.specs.TableWords.{with_id, is_of_table};
@@ -22,7 +21,7 @@ use kmip_operation_words::why_no_call;
 use kmip_operations::{message_refusal, operation_named, payload_refusal, version_written};
 use kmip_shape::ShowItem;
 use kmip_wire::{OutOfMemory, Text};
-use kmip_words::{refusal_of, typed_call, write_out};
+use kmip_words::{refusal_of, write_out};
 use std::alloc::Global;
 
 /// What is said where `limit=N` has no number.
@@ -40,9 +39,6 @@ pub const NOT_UTF8: &str = "a word or KMIP_PASSWORD is not UTF-8";
 /// What is said where `item-id=HEX` has no Unique Batch Item ID.
 const WRONG_ID: &str = "item-id= takes an even number of hex digits, at least two";
 
-/// What is said of words that a record cannot hold.
-const NOT_RECORDED: &str = "a record cannot hold these words";
-
 /// Why no call of the table is made: the Unique Batch Item ID in front is none, or its words are
 /// wrong.
 fn wrong_row(alloc: Global, hex: Option<&str>, words: &[Text]) -> Result<Text, OutOfMemory>
@@ -55,36 +51,22 @@ fn wrong_row(alloc: Global, hex: Option<&str>, words: &[Text]) -> Result<Text, O
     Ok(why_no_call(alloc, words)?)
 }
 
-/// Why no call of the table is made: it is to be recorded, or its words are wrong.
-fn no_row(alloc: Global, order: &Order) -> Result<Text, OutOfMemory>
-    ensures { IfOk result (λ text. IsNoRow order.now.file (with_id order.now.words) text) }
+/// Why no call of the table is made of these words.
+fn no_row(alloc: Global, words: &[Text]) -> Result<Text, OutOfMemory>
+    ensures { IfOk result (λ text. IsNoRow (with_id words.now) text) }
 {
-    let (hex, words) = with_id(order.words.as_slice());
-    match &order.file {
-        Some(_) => Ok(Text::of(alloc, NOT_RECORDED)?),
-        None => Ok(wrong_row(alloc, hex, words)?),
-    }
+    let (hex, words) = with_id(words);
+    Ok(wrong_row(alloc, hex, words)?)
 }
 
-/// Why no call is made of words that are no typed call.
-fn untyped(alloc: Global, order: &Order) -> Result<Text, OutOfMemory>
-    ensures { IfOk result (λ text. IsUntyped (is_of_table order.now.words) order.now text) }
+/// Why no call is made of words with no JSON.
+fn untyped(alloc: Global, words: &[Text]) -> Result<Text, OutOfMemory>
+    ensures { IfOk result (λ text. IsUntyped (is_of_table words.now) words.now text) }
 {
-    let words = order.words.as_slice();
     if is_of_table(words) {
-        Ok(no_row(alloc, order)?)
+        Ok(no_row(alloc, words)?)
     } else {
         Ok(refusal_of(alloc, words)?)
-    }
-}
-
-/// Why no call without JSON is made: a record cannot hold a typed call, or the words are none.
-fn not_typed(alloc: Global, order: &Order) -> Result<Text, OutOfMemory>
-    ensures { IfOk result (λ text. IsNotTyped (typed_call order.now.words) order.now text) }
-{
-    match typed_call(alloc, order.words.as_slice())? {
-        Some(_) => Ok(Text::of(alloc, NOT_RECORDED)?),
-        None => Ok(untyped(alloc, order)?),
     }
 }
 
@@ -154,24 +136,14 @@ fn wrong_tree(alloc: Global, words: TreeWords<'_>) -> Result<Text, OutOfMemory>
     }
 }
 
-/// Why no call whose payload or message is in JSON is made: it is to be recorded, or one of the
-/// words is wrong.
-fn no_tree(alloc: Global, file: &Option<Text>, words: TreeWords<'_>) -> Result<Text, OutOfMemory>
-    ensures { IfOk result (λ text. IsNoTree file.now (tree_text words.entry) text) }
-{
-    match file {
-        Some(_) => Ok(Text::of(alloc, NOT_RECORDED)?),
-        None => Ok(wrong_tree(alloc, words)?),
-    }
-}
-
 /// Why nothing that an order asks for is made.
 fn why_not(alloc: Global, order: &Order) -> Result<Text, OutOfMemory>
     ensures { IfOk result (λ text. IsWhyNot order.now text) }
 {
-    match tree_words(order.words.as_slice()) {
-        Some(words) => Ok(no_tree(alloc, &order.file, words)?),
-        None => Ok(not_typed(alloc, order)?),
+    let words = order.words.as_slice();
+    match tree_words(words) {
+        Some(tree) => Ok(wrong_tree(alloc, tree)?),
+        None => Ok(untyped(alloc, words)?),
     }
 }
 

@@ -1,16 +1,14 @@
 //! What an order asks for, and its request.
-ghost use Rattle.std.specs.Prelude.{◌≡◌, false, Some, None, option_map, IfOk, MatchOption};
-ghost use Rattle.std.specs.Option.{is_some};
+ghost use Rattle.std.specs.Prelude.{◌≡◌, Some, None, option_map, IfOk, MatchOption};
 ghost use Rattle.kmip_caller.specs.TreeWords.{an_operation, a_message, tree_text, tree_words};
 ghost use Rattle.kmip_caller.specs.TreeWords.{item_id};
 ghost use Rattle.kmip_words.specs.Calls.{typed_call};
-ghost use Rattle.kmip_words.specs.Exchange.{request_asked};
+ghost use Rattle.kmip_words.specs.Exchange.{request_asked, Settings as TheSettings};
 ghost use Rattle.kmip_caller.specs.TableWords.{with_id};
-ghost use Rattle.kmip_caller.specs.Asked.{is_allowed, AsksForNone, Requests};
+ghost use Rattle.kmip_caller.specs.Asked.{exchange_of, AsksForNone, Requests};
 ghost use Rattle.kmip_caller.specs.declared.requested.Asked.TheVariants.{Typed};
 
 use crate::command::Order;
-use crate::record::{is_recordable, words_for};
 use crate::table_words::with_id;
 use crate::tree_words::{TreeWords, item_id, tree_words};
 use kmip_operation_words::table_call;
@@ -41,20 +39,6 @@ pub struct Requested {
     pub request: Option<Blob>,
 }
 
-/// Whether a typed call may be made: where it is to be recorded, only if a script may hold it.
-fn is_allowed(alloc: Global, order: &Order, call: &Call) -> Result<bool, OutOfMemory>
-    requires { typed_call order.now.words ≡ Some call.now }
-    ensures { IfOk result (λ allowed. allowed ≡ is_allowed order.now.file order.now.words) }
-{
-    match &order.file {
-        Some(_) => {
-            let words = words_for(alloc, call, order.words.as_slice())?;
-            is_recordable(alloc, words.as_slice())
-        }
-        None => Ok(true),
-    }
-}
-
 /// A typed call, with its request.
 fn with_request(alloc: Global, settings: &Settings, call: Call) -> Result<Requested, OutOfMemory>
     ensures asked { IfOk result (λ it. it.asked ≡ Typed call) }
@@ -68,16 +52,13 @@ fn with_request(alloc: Global, settings: &Settings, call: Call) -> Result<Reques
     })
 }
 
-/// The request of a typed call; `None` where it may not be made.
+/// The request of a typed call.
 fn typed_request(alloc: Global, order: &Order, call: Call) -> Result<Option<Requested>, OutOfMemory>
     requires tree { tree_words order.now.words ≡ None }
     requires typed { typed_call order.now.words ≡ Some call }
     ensures { IfOk result (λ found. MatchOption found (AsksForNone order.now)
         (λ it. Requests order.now it.asked it.request)) }
 {
-    if !is_allowed(alloc, order, &call)? {
-        return Ok(None);
-    }
     Ok(Some(with_request(alloc, &order.settings, call)?))
 }
 
@@ -102,7 +83,6 @@ fn operation_with(
     id: &Option<Blob>,
     payload: &str,
 ) -> Result<Option<Requested>, OutOfMemory>
-    requires file { is_some order.now.file ≡ false }
     requires words { tree_words order.now.words ≡ Some (an_operation name.now version.now
         (option_map (λ text. text.now) hex) payload.now) }
     requires id { item_id (option_map (λ text. text.now) hex) ≡ Some id.now }
@@ -128,7 +108,6 @@ fn operation_request_of(
     hex: Option<&str>,
     payload: &str,
 ) -> Result<Option<Requested>, OutOfMemory>
-    requires file { is_some order.now.file ≡ false }
     requires words { tree_words order.now.words ≡ Some (an_operation name.now version.now
         (option_map (λ text. text.now) hex) payload.now) }
     ensures { IfOk result (λ found. MatchOption found (AsksForNone order.now)
@@ -149,7 +128,6 @@ fn table_request_with(
     id: &Option<Blob>,
     words: &[Text],
 ) -> Result<Option<Requested>, OutOfMemory>
-    requires file { is_some order.now.file ≡ false }
     requires tree { tree_words order.now.words ≡ None }
     requires typed { typed_call order.now.words ≡ None }
     requires hex { option_map (λ text. text.now) hex ≡ (with_id order.now.words).value }
@@ -168,17 +146,13 @@ fn table_request_with(
     }))
 }
 
-/// The request of a call of the table; `None` where the words ask for none, or the call is to be
-/// recorded.
+/// The request of a call of the table; `None` where the words ask for none.
 fn table_request(alloc: Global, order: &Order) -> Result<Option<Requested>, OutOfMemory>
     requires tree { tree_words order.now.words ≡ None }
     requires typed { typed_call order.now.words ≡ None }
     ensures { IfOk result (λ found. MatchOption found (AsksForNone order.now)
         (λ it. Requests order.now it.asked it.request)) }
 {
-    if let Some(_file) = &order.file {
-        return Ok(None);
-    }
     let (hex, words) = with_id(order.words.as_slice());
     match item_id(alloc, hex)? {
         Some(id) => table_request_with(alloc, order, hex, &id, words),
@@ -186,8 +160,7 @@ fn table_request(alloc: Global, order: &Order) -> Result<Option<Requested>, OutO
     }
 }
 
-/// The request of a typed call or of one of the table; `None` where the words ask for none that may
-/// be made.
+/// The request of a typed call or of one of the table; `None` where the words ask for none.
 fn worded_request(alloc: Global, order: &Order) -> Result<Option<Requested>, OutOfMemory>
     requires { tree_words order.now.words ≡ None }
     ensures { IfOk result (λ found. MatchOption found (AsksForNone order.now)
@@ -205,7 +178,6 @@ fn message_request_of(
     order: &Order,
     text: &str,
 ) -> Result<Option<Requested>, OutOfMemory>
-    requires file { is_some order.now.file ≡ false }
     requires words { tree_words order.now.words ≡ Some (a_message text.now) }
     ensures { IfOk result (λ found. MatchOption found (AsksForNone order.now)
         (λ it. Requests order.now it.asked it.request)) }
@@ -221,7 +193,7 @@ fn message_request_of(
 }
 
 /// The request of a call whose payload or message is given in JSON; `None` where the words ask for
-/// none, or the call is to be recorded.
+/// none.
 fn tree_request(
     alloc: Global,
     order: &Order,
@@ -231,9 +203,6 @@ fn tree_request(
     ensures { IfOk result (λ found. MatchOption found (AsksForNone order.now)
         (λ it. Requests order.now it.asked it.request)) }
 {
-    if order.file.is_some() {
-        return Ok(None);
-    }
     match words {
         TreeWords::Operation {
             name,
@@ -245,7 +214,7 @@ fn tree_request(
     }
 }
 
-/// What an order asks for, and its request; `None` where it asks for nothing that may be made.
+/// What an order asks for, and its request; `None` where it asks for nothing.
 pub fn request_for(alloc: Global, order: &Order) -> Result<Option<Requested>, OutOfMemory>
     ensures { IfOk result (λ found. MatchOption found (AsksForNone order.now)
         (λ it. Requests order.now it.asked it.request)) }
@@ -253,5 +222,19 @@ pub fn request_for(alloc: Global, order: &Order) -> Result<Option<Requested>, Ou
     match tree_words(order.words.as_slice()) {
         Some(words) => tree_request(alloc, order, words),
         None => worded_request(alloc, order),
+    }
+}
+
+/// The bytes of what was asked for, where it has no credential but that of a message of the
+/// caller's; `None` where it has no wire form.
+pub fn without_credential(alloc: Global, asked: &Asked) -> Result<Option<Blob>, OutOfMemory>
+    ensures { IfOk result (λ request. (settings : TheSettings) →
+        request ≡ (exchange_of settings asked.now).without_credential) }
+{
+    let settings = Settings::new(None, None, None);
+    match asked {
+        Asked::Typed(call) => request_of(alloc, &settings, call),
+        Asked::Operation(call, _) => operation_request(alloc, &settings, call),
+        Asked::Message(message) => message_request(alloc, message),
     }
 }

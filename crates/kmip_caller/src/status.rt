@@ -9,7 +9,7 @@ use kmip_words::Ending;
 pub enum Status {
     /// The call was made, and its record and its answer were written.
     Ended(Ending),
-    /// The words are no call, or a record cannot hold them: nothing was sent, read or recorded.
+    /// The words are no call: nothing was sent, read or recorded.
     NoCall,
     /// The record or the answer could not be written; the exchange was made.
     NotWritten,

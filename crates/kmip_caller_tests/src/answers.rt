@@ -1,7 +1,5 @@
 //! Calls of words that are answered, and calls of any operation and of whole messages.
-use crate::support::{
-    ANSWERED, Failing, NONE, NOT_READ, NOT_RECORDED, NOT_SENT, RNG_BY_ALICE, Row,
-};
+use crate::support::{ANSWERED, Failing, NONE, NOT_READ, NOT_SENT, RNG_BY_ALICE, Row};
 
 /// Calls that are answered.
 const ANSWERS: &[Row] = &[
@@ -463,12 +461,6 @@ const OPERATIONS: &[Row] = &[
         ..NO_OPERATION
     },
     Row {
-        shows: "an operation with a record",
-        words: &["record=calls", "operation", "Encrypt", PAYLOAD],
-        line: NOT_RECORDED,
-        ..NO_OPERATION
-    },
-    Row {
         shows: "a version after the payload",
         words: &["operation", "Encrypt", PAYLOAD, "version=1.2"],
         ..NO_OPERATION
@@ -542,8 +534,8 @@ const MESSAGES: &[Row] = &[
     Row {
         shows: "a message with a record",
         words: &["record=calls", "message", MESSAGE],
-        line: NOT_RECORDED,
-        ..NOT_SENT_AT_ALL
+        record: "message <78{0F{5C e1A}}> <7B{0F{7F e1}}>\n",
+        ..SENT
     },
     Row {
         shows: "a message and a word more",

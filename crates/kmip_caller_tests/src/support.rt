@@ -73,7 +73,7 @@ pub const ANSWERED: Row = Row {
 };
 
 /// The lines of words that are not those of `rng`, of an option of `sign` whose value is none, of
-/// words that begin with an option, of a limit that is none, and of words that a record cannot hold.
+/// words that begin with an option, and of a limit that is none.
 pub const NOT_RNG: &str =
     "{\"error\":\"GrammarError\",\"text\":\"the words are not those of rng N\"}\n";
 
@@ -89,9 +89,6 @@ pub const OPTION: &str =
 
 pub const LIMIT: &str =
     "{\"error\":\"GrammarError\",\"text\":\"limit= takes a number from 0 to 4294967295\"}\n";
-
-pub const NOT_RECORDED: &str =
-    "{\"error\":\"GrammarError\",\"text\":\"a record cannot hold these words\"}\n";
 
 /// No words, for which nothing is sent or read.
 pub const REFUSED: Row = Row {

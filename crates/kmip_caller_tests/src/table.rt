@@ -1,7 +1,7 @@
 //! Calls of the table of operations: their requests, their answers in plain JSON, and refusals.
 //!
 //! Names of tags and values are those of KMIP 1.2 (9.1.3.1 and 9.1.3.2), in the JSON of OASIS.
-use crate::support::{ANSWERED, NOT_RECORDED, OPTION, Row};
+use crate::support::{ANSWERED, OPTION, Row};
 
 /// The call of Encrypt, which is answered.
 const ENCRYPTED: Row = Row {
@@ -189,18 +189,6 @@ const REFUSALS: &[Row] = &[
         shows: "a Unique Batch Item ID of a typed call",
         words: &["item-id=0102", "query"],
         line: OPTION,
-        ..REFUSED
-    },
-    Row {
-        shows: "a call that is to be recorded",
-        words: &["record=calls", "archive", "5"],
-        line: NOT_RECORDED,
-        ..REFUSED
-    },
-    Row {
-        shows: "a call with a Unique Batch Item ID that is to be recorded",
-        words: &["record=calls", "item-id=0102", "archive", "5"],
-        line: NOT_RECORDED,
         ..REFUSED
     },
     Row {

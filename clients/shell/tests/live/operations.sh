@@ -17,9 +17,9 @@ says 'it is said, too' '"GrammarError".*the payload: .*no Structure with the tag
 call_is 'a payload without its end' 2 operation Archive "${payload%?}"
 call_is 'no payload' 2 operation Archive
 call_is 'no name' 2 operation
-KMIP_RECORD=$work/calls call_is 'an operation is not recorded' 2 operation Archive "$payload"
-[[ ! -s $work/calls ]]
-verdict 'and nothing is'
+KMIP_RECORD=$work/calls call_is 'an operation that is recorded' 0 operation Archive "$payload"
+grep -qE '^message 420078[0-9A-F]+ 42007B[0-9A-F]+$' calls && (($(wc -l <calls) == 1))
+verdict 'is so as a message'
 call_is 'a file that is not there' 2 operation Archive @nowhere.json
 says 'is said' '"GrammarError".*file'
 printf '%s\0\n' "$payload" >zero.json

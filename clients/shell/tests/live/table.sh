@@ -37,7 +37,9 @@ refused 'a word that is missing' '"GrammarError".*encrypt' encrypt 5
 refused 'a mode that is none' '"GrammarError".*mode=.*CBC' encrypt 5 00 mode=XYZ
 refused 'an empty identifier' '"GrammarError"' archive -
 refused 'a file that is not there' '"GrammarError".*cannot read @nowhere' encrypt 5 @nowhere
-refused 'a call that is to be recorded' '"GrammarError"' record=record archive 5
+request user=u password=geheim record=record archive 5 >sent
+[[ $(<record) == "message $(request archive 5 | od -An -v -tx1 | tr -d ' \n' | tr a-f A-F) -" ]]
+verdict 'a call of it is recorded as a message, without its password'
 "$built/kmip_call" --operations >"$said" 2>&1
 verdict 'the table is listed'
 (($(grep -c '^[a-z]' "$said") == $(grep -c '^    [a-z]' "$said") && $(grep -c '^[a-z]' "$said") >= 20))
@@ -75,6 +77,12 @@ verdict "the client for bash has the table's calls, with their words and options
 fake good
 script_is 'an Encrypt by words' 0 'open; kmip encrypt "my key" 68656C6C6F mode=CBC padding=PKCS5; kmip_close'
 says 'its answer is plain JSON' '^\{"answer":\{"unique_identifier":"my key"\}\}$'
+rm -f record
+KMIP_RECORD=record KMIP_USER=u KMIP_PASSWORD=geheim script_is 'a day with an Encrypt in it is recorded' 0 '
+    open; kmip rng 2 && kmip encrypt "my key" 68656C6C6F && kmip locate "a name"; kmip_close'
+[[ $(sed -E 's/ 42007B[0-9A-F]+$//; s/(420078)[0-9A-F]+$/\1/' record) == $'rng 2\nmessage 420078\nraw 420078' ]] &&
+    ! grep -q 67656865696D record
+verdict 'each call has its line, and none the password'
 script_is 'a code that is verified, of a file' 0 'open; kmip mac-verify "my key" 68656C6C6F @code.bin; kmip_close'
 script_is 'a field of a plain answer' 0 'open; kmip_field unique_identifier hash 68656C6C6F hash=SHA256; kmip_close'
 says 'is written' '^1$'

@@ -10,8 +10,9 @@ returns-in-Ok-Some g c =
     (g.S.Source.state c.args.source.now) (g.S.Source.state c.make_call.new.source)
     (g.F.Sink.state c.args.kept.now) (g.F.Sink.state c.report.new.kept)
     (g.K.Sink.state c.args.errors.now) (g.K.Sink.state c.report.new.errors)
-    _ _ _ c.report.result
+    _ _ _ _ c.report.result
     (rw c.in-Ok-Some.field-0-is at c.in-Ok-Some.ensures.made)
+    (rw c.in-Ok-Some.field-0-is at c.in-Ok-Some.ensures.words)
     (record {
       status_is = e.status;
       recorded = e.recorded;

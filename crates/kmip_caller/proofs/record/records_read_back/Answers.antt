@@ -6,3 +6,6 @@ returns-clause-back c = laws.back
 
 pub returns-clause-typed : goal.returns-clause-typed
 returns-clause-typed c = laws.typed
+
+pub returns-clause-raw : goal.returns-clause-raw
+returns-clause-raw c = laws.raw

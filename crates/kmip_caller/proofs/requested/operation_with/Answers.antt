@@ -11,6 +11,6 @@ pub returns : goal.returns
 returns c =
     operation_asks c.args.order.now c.args.name.now c.args.version.now
     _ c.args.payload.now c.args.id.now
-    c.in-Some.call _ c.requires.file c.requires.words c.requires.id
+    c.in-Some.call _ c.requires.words c.requires.id
     (rw (c.in-Some.is, c.bytes_in.ensures) at c.in_ok-call.ensures)
     c.in_ok-request.ensures

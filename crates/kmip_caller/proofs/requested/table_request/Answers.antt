@@ -1,10 +1,6 @@
 use Rattle.std.proofs.Common.{sym, ◌∙◌}
-use Rattle.kmip_caller.proofs.Asked.{none_of_table, none_of_table_kept, words_of_none}
+use Rattle.kmip_caller.proofs.Asked.{none_of_table, words_of_none}
 use Rattle.kmip_caller.proofs.requested.table_request.Goals as goal
-
-pub returns-in-Some : goal.returns-in-Some
-returns-in-Some c =
-    none_of_table_kept c.args.order.now _ c.in-Some.is c.requires.tree c.requires.typed
 
 pub returns-in-None : goal.returns-in-None
 returns-in-None c =

@@ -11,7 +11,7 @@ returns-in_default c =
 
 pub returns : goal.returns
 returns c =
-    table_asks c.args.order.now c.in-Some.call _ c.requires.file c.requires.tree
+    table_asks c.args.order.now c.in-Some.call _ c.requires.tree
     (words_of_table c.args.order.now.words c.args.words.now _ c.args.id.now
     (Some (request_of c.in-Some.call)) c.requires.hex c.requires.words c.requires.id
     (rw (c.in-Some.is, c.bytes_in.ensures) at c.in_ok-call.ensures))

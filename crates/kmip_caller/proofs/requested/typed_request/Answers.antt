@@ -1,4 +1,3 @@
-use Rattle.std.proofs.Common.{sym, ◌∙◌}
 use Rattle.kmip_caller.proofs.Asked.{typed_asks}
 use Rattle.kmip_caller.proofs.requested.typed_request.Goals as goal
 
@@ -6,6 +5,5 @@ pub returns : goal.returns
 returns c =
     typed_asks c.args.order.now c.args.call c.in_ok-with_request.field-0.asked
     c.in_ok-with_request.field-0.request c.requires.tree
-    (sym c.in_ok-is_allowed.ensures ∙ c.if-not-branch.false)
     c.requires.typed
     c.in_ok-with_request.ensures.asked c.in_ok-with_request.ensures.request
