@@ -105,15 +105,17 @@ def told_key(asked):
 def transparent(wire, request):
     """answers get with the parts of a key: `PublicKey.RSA`, `PrivateKey.RSA`, `PublicKey.EC`, `PrivateKey.EC`; `HMAC` is
     an HMAC key, `request` a certificate request, `no value` a key without its value, `elsewhere` a key on a curve about which
-    it says another identifier, as long, `nameless` one about which it says none; attributes with one that is in no table, of
-    `moved` with another identifier; query's vendor is how many requests came on the connection"""
+    it says another identifier, as long, `nameless` one about which it says none; attributes with an algorithm that is in no
+    table, of `elsewhere` with an attribute that is, of `moved` with another identifier; query's vendor is how many requests
+    came on the connection"""
     wire.came = getattr(wire, 'came', 0) + 1
     operation, asked = operation_of(request), (value_of(request, '420094', 7) or b'').decode()
     if operation == QUERY:
         return wire.sendall(response(QUERY, [text(0x42009D, '%d' % wire.came)]))
     if operation == GET_ATTRIBUTES:
-        unknown = structure(0x420008, text(0x42000A, 'x-of ours'), enumeration(0x42000B, 9))
-        return wire.sendall(response(GET_ATTRIBUTES, [identifier('other' if asked == 'moved' else asked), unknown]))
+        name, value = ('x-of ours', 9) if asked == 'elsewhere' else ('Cryptographic Algorithm', 6)
+        attribute = structure(0x420008, text(0x42000A, name), enumeration(0x42000B, value))
+        return wire.sendall(response(GET_ATTRIBUTES, [identifier('other' if asked == 'moved' else asked), attribute]))
     number, body = OTHERS.get(asked) or told_key(asked)
     about = {'elsewhere': [identifier('otherwise')], 'nameless': []}.get(asked, [identifier(asked)])
     return wire.sendall(response(GET, [enumeration(0x420057, number), *about, body]))

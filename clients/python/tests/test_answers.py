@@ -87,7 +87,7 @@ class Pem(unittest.TestCase):
             self.assertIsInstance(key.tree, Item)
             self.assertEqual((key.key_format_type, key.key_material), ('Raw', b'secret'))
             attributes = [item for item in kmip.attributes('k') if isinstance(item, Item)]
-            self.assertEqual([item.text_at('AttributeName') for item in attributes], ['x-of ours'])
+            self.assertEqual([item.name_at('AttributeValue') for item in attributes], ['ECDSA'])
             with self.assertRaises(InternalError):
                 kmip.get('PublicKey.EC', wrap='k')
             self.assertEqual(kmip.query()['vendor_identification'], '4')
