@@ -191,6 +191,10 @@ int64_t kmip_contents_len(const uint8_t *head, size_t eight, uint32_t limit);
    several items have one tag, the member is their list:
    {"answer":{"unique_identifier":"5","data":"6868"}}.
 
+   What the tables of `get`, where no wrapping is asked for, and of `attributes` have no words for, as
+   a key of EC or HMAC, is the payload as a tree, as of kmip_operation_answer: {"answer":{"tag":..}}.
+   About another object, or about none, it is KMIP_LOST.
+
    A typed response belongs to a call by its one batch item, by its operation, and where both name
    an object, by the object's identifier: so one typed call at a time on a connection. That of a
    call of the table belongs to it by its operation and, where the request had an ID, by that: a

@@ -111,9 +111,9 @@ HIDDEN int kmip_exchange(kmip_client *client, size_t request_len, bool is_change
    is. */
 HIDDEN int kmip_read_answer(kmip_client *client);
 
-/* What the response answers to this operation of KMIP 1.2, whose line is kept; -1: memory ran
-   out. */
-HIDDEN int32_t kmip_line_of_operation(kmip_client *client, const char *name);
+/* What the response answers to the operation Get, whose line is kept; -1: memory ran out. The
+   client has no call then. */
+HIDDEN int32_t kmip_line_of_get(kmip_client *client);
 
 /* Tells the log what came of a call, which is called so. */
 HIDDEN void kmip_tell_call(kmip_client *client, const char *call);

@@ -623,7 +623,7 @@ static const char *tree_of(kmip_client *client, kmip_room *own) {
     if (kmip_is_tree(kmip_line(client))) return kmip_line(client);
     kmip_room line = client->line;
     client->line = (kmip_room){NULL, 0};
-    int32_t status = kmip_line_of_operation(client, "Get");
+    int32_t status = kmip_line_of_get(client);
     *own = client->line;
     client->line = line;
     return status == KMIP_ANSWERED ? (const char *)own->bytes : NULL;

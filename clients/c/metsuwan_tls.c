@@ -351,15 +351,12 @@ static int32_t line_of(kmip_client *client) {
     }
 }
 
-int32_t kmip_line_of_operation(kmip_client *client, const char *name) {
-    const kmip_words words = client->words;
-    client->words = (kmip_words){NULL, 0};
-    client->name = name;
+int32_t kmip_line_of_get(kmip_client *client) {
+    client->name = "Get";
     client->version = "1.2";
     client->payload = "{\"tag\":\"RequestPayload\",\"value\":[]}";
     int32_t status = line_of(client);
-    client->name = client->version = client->payload = NULL;
-    client->words = words;
+    kmip_forget_call(client);
     return status;
 }
 
@@ -377,56 +374,10 @@ int64_t kmip_value_of(const char *line, const char *path, bool hex, kmip_room *i
     }
 }
 
-static bool begins_with(const kmip_word *word, const char *front) {
-    size_t length = strlen(front);
-    return word->length >= length && memcmp(word->bytes, front, length) == 0;
-}
-
-/* The operation as which the answer to a call of words may be read, or a null pointer. What was to
-   be wrapped is not given as anything else. */
-static const char *operation_of(const kmip_words *words) {
-    const char *name = (const char *)words->at[0].bytes;
-    if (words->count < 2 || words->at[1].is_data) return NULL;
-    if (strcmp(name, "attributes") == 0) return "GetAttributes";
-    if (strcmp(name, "get") != 0) return NULL;
-    for (size_t i = 2; i < words->count; i++)
-        if (begins_with(&words->at[i], "wrap=")) return NULL;
-    return "Get";
-}
-
-/* Whether the answer to an operation is about the object that this word names, which may be the last
-   value that was read. */
-static bool is_about(const char *line, const kmip_word *word) {
-    kmip_room found = {NULL, 0};
-    int64_t length = kmip_value_of(line, "UniqueIdentifier", false, &found);
-    bool same = length >= 0 && (uint64_t)length == word->length &&
-                memcmp(found.bytes, word->bytes, word->length) == 0;
-    kmip_room_free(&found);
-    return same;
-}
-
-/* After a refusal: what the tables of a call have no words for, as a key of EC, is answered as the
-   operation of the call has it, where the same bytes are a success of that. */
-static int answer_as_tree(kmip_client *client) {
-    const char *name = operation_of(&client->words);
-    if (!name) return client->status;
-    kmip_room refusal = client->line;
-    client->line = (kmip_room){NULL, 0};
-    if (kmip_line_of_operation(client, name) != KMIP_ANSWERED) {
-        kmip_room_free(&client->line);
-        client->line = refusal;
-        return client->status;
-    }
-    kmip_room_free(&refusal);
-    if (is_about(kmip_line(client), &client->words.at[1])) return client->status = KMIP_ANSWERED;
-    return kmip_says(client, KMIP_LOST, "InternalError", "the response is about another object");
-}
-
 int kmip_read_answer(kmip_client *client) {
     int32_t status = line_of(client);
     if (status < 0) return kmip_says_no_memory(client);
-    client->status = status;
-    return status == KMIP_REFUSED && client->words.at ? answer_as_tree(client) : status;
+    return client->status = status;
 }
 
 /* Reads what follows the head of a response of this length. What is announced may never come, so
@@ -584,6 +535,11 @@ static int exchange_of(kmip_client *client, size_t length) {
     if (status == KMIP_ANSWERED) status = kmip_ends_as(client, kmip_read_answer(client));
     kmip_tell_call(client, client->operation);
     return status;
+}
+
+static bool begins_with(const kmip_word *word, const char *front) {
+    size_t length = strlen(front);
+    return word->length >= length && memcmp(word->bytes, front, length) == 0;
 }
 
 /* Whether a word is the beginning of a text of PEM: as bytes, or as hex digits. */

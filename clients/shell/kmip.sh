@@ -519,7 +519,6 @@ kmip_deadline() {
 # Makes a call, and writes its answer. `pem` and `register-..` are calls of this file's own.
 kmip() { # CALL WORD..
     case ${1-} in
-    get | attributes) kmip_or_tree "$@" ;;
     pem) kmip_pem "${@:2}" ;;
     register-private | register-public | register-certificate | register-secret) kmip_register "${1#register-}" "${@:2}" ;;
     register) kmip_not_pem "${@:3}" && kmip_once "$@" ;;
@@ -572,45 +571,6 @@ kmip_once() { # CALL WORD..
     if ((status > 5)); then
         kmip_lose ResponseReadError 'the call was interrupted' || status=$?
     fi
-    return $status
-}
-
-# Makes a call whose answer may be of a kind that its tables have no words for, as `get` of a key of EC: then it asks once
-# more, by the operation, whose answer is the payload as a tree.
-kmip_or_tree() { # CALL WORD..
-    local answer status=0
-    if [[ ! -e /proc/self/fd/1 ]]; then
-        kmip_once "$@"
-        return
-    fi
-    answer=$(kmip_once "$@") || status=$?
-    # (What was to be wrapped is not asked for in another way.)
-    if ((status == 1)) && [[ $answer == *'"text":"not a response message"'* && " ${*:3}" != *' wrap='* ]] && type -P jq >/dev/null; then
-        status=0
-        answer=$(kmip_tree "$@") || status=$?
-    fi
-    # What cannot be written is to be an error of what writes it, and not the end of the script.
-    if [[ -n $answer ]] && ! (trap '' PIPE XFSZ && printf '%s\n' "$answer") 2>/dev/null; then
-        kmip_not_written 'the answer cannot be written' || status=$?
-    fi
-    return $status
-}
-
-# The same by its operation. The answer has to be about the object that was asked about.
-kmip_tree() { # CALL IDENTIFIER WORD..
-    local answer status=0 payload name=Get
-    if [[ $1 == attributes ]]; then name=GetAttributes; fi
-    payload=$(jq -nc --arg call "$1" --arg it "$2" '$ARGS.positional as $more |
-        {tag: "RequestPayload", value: ([{tag: "UniqueIdentifier", type: "TextString", value: $it}] +
-            if $call == "attributes" then [$more[] | {tag: "AttributeName", type: "TextString", value: .}]
-            else [$more[] | select(startswith("format=")) | {tag: "KeyFormatType", type: "Enumeration", value: .[7:]}] end)}' \
-        --args "${@:3}") || return 5
-    answer=$(kmip_once operation "$name" version=1.0 "$payload") || status=$?
-    if ((status == 0)) && [[ $(jq -r '.answer.value[] | select(.tag == "UniqueIdentifier").value' <<<"$answer") != "$2" ]]; then
-        kmip_lose InternalError 'the response is about another object'
-        return
-    fi
-    printf '%s\n' "$answer"
     return $status
 }
 

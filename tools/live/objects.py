@@ -2,7 +2,7 @@
 import sys
 
 from der import contents_in
-from registry import GET, GET_ATTRIBUTES, REGISTER, fake
+from registry import GET, GET_ATTRIBUTES, QUERY, REGISTER, fake
 from ttlv import FAILED, enumeration, identifier, integer, item, octets, operation_of, response, structure, text, value_of
 
 # KMIP's numbers of what `objects` has: of types of objects, with the tags of these, and of formats.
@@ -81,24 +81,41 @@ def parts_of(name):
     return form, [item(tag, 4, number) for tag, number in zip(tags, padded)], 4
 
 
-@fake
-def transparent(wire, request):
-    """answers get with the parts of a key: `PublicKey.RSA`, `PrivateKey.RSA`, `PublicKey.EC`, `PrivateKey.EC`; `HMAC` is
-    an HMAC key, `elsewhere` a key on a curve about which it says another identifier, as long; attributes with one that is in no
-    table"""
-    asked = (value_of(request, '420094', 7) or b'').decode()
-    if operation_of(request) == GET_ATTRIBUTES:
-        unknown = structure(0x420008, text(0x42000A, 'x-of ours'), enumeration(0x42000B, 9))
-        return wire.sendall(response(GET_ATTRIBUTES, [identifier(asked), unknown]))
+# Of what is no key with a value: the number of its type, which for a certificate request is of KMIP 2.0, and the object.
+OTHERS = {'request': (10, octets(0x420018, b'request')),
+          'no value': (2, structure(0x42008F, structure(0x420040, enumeration(0x420042, 1), enumeration(0x420028, 3))))}
+
+
+def told_key(asked):
+    """The number of the type of a key of `transparent`, and the key."""
     if asked == 'HMAC':
         kind, (form, parts, algorithm) = 'SymmetricKey', (1, [], 8)
         material = octets(0x420043, b'secret')
     else:
-        name = 'PublicKey.EC' if asked == 'elsewhere' else asked
+        name = asked if '.' in asked else 'PublicKey.EC'
         kind, (form, parts, algorithm) = name.split('.', maxsplit=1)[0], parts_of(name)
         material = structure(0x420043, *parts)
     number, tag = OBJECT_TYPES[kind]
     block = structure(0x420040, enumeration(0x420042, form), structure(0x420045, material),
                       enumeration(0x420028, algorithm), integer(0x42002A, 256))
-    return wire.sendall(response(GET, [enumeration(0x420057, number),
-                                       identifier('otherwise' if asked == 'elsewhere' else asked), structure(tag, block)]))
+    return number, structure(tag, block)
+
+
+@fake
+def transparent(wire, request):
+    """answers get with the parts of a key: `PublicKey.RSA`, `PrivateKey.RSA`, `PublicKey.EC`, `PrivateKey.EC`; `HMAC` is
+    an HMAC key, `request` a certificate request, `no value` a key without its value, `elsewhere` a key on a curve about which
+    it says another identifier, as long, `nameless` one about which it says none; attributes with an algorithm that is in no
+    table, of `elsewhere` with an attribute that is, of `moved` with another identifier; query's vendor is how many requests
+    came on the connection"""
+    wire.came = getattr(wire, 'came', 0) + 1
+    operation, asked = operation_of(request), (value_of(request, '420094', 7) or b'').decode()
+    if operation == QUERY:
+        return wire.sendall(response(QUERY, [text(0x42009D, '%d' % wire.came)]))
+    if operation == GET_ATTRIBUTES:
+        name, value = ('x-of ours', 9) if asked == 'elsewhere' else ('Cryptographic Algorithm', 6)
+        attribute = structure(0x420008, text(0x42000A, name), enumeration(0x42000B, value))
+        return wire.sendall(response(GET_ATTRIBUTES, [identifier('other' if asked == 'moved' else asked), attribute]))
+    number, body = OTHERS.get(asked) or told_key(asked)
+    about = {'elsewhere': [identifier('otherwise')], 'nameless': []}.get(asked, [identifier(asked)])
+    return wire.sendall(response(GET, [enumeration(0x420057, number), *about, body]))

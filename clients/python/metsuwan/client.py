@@ -18,8 +18,8 @@ from .errors import (ConnectError, ConnectionLost, DeserializeError, GrammarErro
                      SerializeError, error_of)
 from .items import Item
 from .keys import Text, block_of, key_of_pem, registration
-from .library import (ANSWERED, CALL_GRAMMAR, GRAMMAR, LOST, NO_FORM, NO_MEMORY, TOO_LONG,
-                      REFUSED, Call, Credential, Library, Operation)
+from .library import (ANSWERED, CALL_GRAMMAR, GRAMMAR, LOST, NO_FORM, NO_MEMORY, TOO_LONG, Call,
+                      Credential, Library, Operation)
 from .objects import KeyPair, ManagedObject, Signed, bytes_at, text_at, value_at
 from .operations import Names, Operations, attributes_of
 from .pem import certificate_der
@@ -34,9 +34,6 @@ CHANGELESS = frozenset(
     b'attribute-list validate Query DiscoverVersions Locate Get GetAttributes GetAttributeList '
     b'Sign SignatureVerify Encrypt Decrypt MAC MACVerify Hash Check Validate'.split())
 Payload = Union[str, Mapping[str, Any], Sequence[Mapping[str, Any]]]
-# The calls whose answer may be of a kind that their tables have not, and the operation of each.
-TREES = {b'get': b'Get', b'attributes': b'GetAttributes'}
-NO_ITEMS = b'{"tag":"RequestPayload","value":[]}'
 
 
 def _credential(user: Optional[str], password: Optional[str]) -> Credential:
@@ -242,8 +239,6 @@ class Client(Operations):
         with self._alone():
             status, line, response = self._exchange(call)
             unwritten = self._keep([call], response)
-            if status == REFUSED:
-                status, line = self._tree_of(call, response) or (status, line)
         if unwritten is None:
             return self._read(call, status, line)
         try:
@@ -355,28 +350,6 @@ class Client(Operations):
         finally:
             LOG.debug('%s: %s: %s, %.1f ms', self._server, what, ', '.join(said),
                       (time.monotonic() - begin) * 1000)
-
-    def _tree_of(self, call: Call, response: bytes) -> Optional[Tuple[int, str]]:
-        """What the same bytes answer to the operation of this call, where they are a success of it
-        that its tables have no words for, as a key of EC."""
-        if isinstance(call, Operation):
-            return None
-        # What was to be wrapped is not given as anything else.
-        is_wrapped = any(word.startswith(b'wrap=') for word, _ in call.words[2:])
-        if call.name not in TREES or (call.name == b'get' and is_wrapped):
-            return None
-        operation = Operation(TREES[call.name], b'1.2', NO_ITEMS)
-        status, line = self._library.answer(operation, response)
-        if status != ANSWERED:
-            return None
-        try:
-            found = Item.of_json(json.loads(line)['answer']).text_at('UniqueIdentifier')
-        except MissingValue:
-            return None
-        if found.encode() != call.words[1][0]:
-            self._end(False)
-            raise OtherObject('the response is about another object')
-        return status, line
 
     def query(self) -> Dict[str, Any]:
         """What the server can do: ``operations`` and more."""

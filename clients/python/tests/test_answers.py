@@ -5,8 +5,8 @@ import unittest
 from typing import Any
 
 import metsuwan
-from metsuwan import (ConnectionLost, DeserializeError, GrammarError, InternalError, ItemNotFound,
-                      KmipError, ManagedObject, MissingValue, OtherObject, Refused,
+from metsuwan import (ConnectionLost, DeserializeError, GrammarError, InternalError, Item,
+                      ItemNotFound, KmipError, ManagedObject, MissingValue, OtherObject, Refused,
                       RequestWriteError, ResponseReadError, SerializeError, ServerError)
 from metsuwan.errors import error_of
 from metsuwan.objects import bytes_at, text_at, value_at
@@ -80,6 +80,21 @@ class Pem(unittest.TestCase):
                     getattr(certificate, part)
             with self.assertRaises(MissingValue):
                 kmip.get('wrapped').key_material
+
+    def test_what_the_tables_have_no_words_for_is_asked_for_once(self) -> None:
+        with client_of('transparent') as kmip:
+            key = kmip.get('HMAC')
+            self.assertIsInstance(key.tree, Item)
+            self.assertEqual((key.key_format_type, key.key_material), ('Raw', b'secret'))
+            attributes = [item for item in kmip.attributes('k') if isinstance(item, Item)]
+            self.assertEqual([item.name_at('AttributeValue') for item in attributes], ['ECDSA'])
+            with self.assertRaises(InternalError):
+                kmip.get('PublicKey.EC', wrap='k')
+            self.assertEqual(kmip.query()['vendor_identification'], '4')
+        for name in ('elsewhere', 'nameless'):
+            with client_of('transparent') as kmip, self.subTest(name):
+                with self.assertRaises(OtherObject):
+                    kmip.get(name)
 
 
 class Errors(unittest.TestCase):

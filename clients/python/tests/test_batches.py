@@ -15,13 +15,15 @@ class Batches(unittest.TestCase):
         with client_of('batches') as kmip:
             batch = kmip.batch().call('query').call('sign', 'k', b'x')
             batch.operation('Archive', [Item('UniqueIdentifier', 'a')]).call('activate', 'k 1')
-            query, signed, archived, activated = batch.send()
+            query, signed, archived, activated, key = batch.call('get', 'PublicKey.EC').send()
             with client_of('good') as good:
                 self.assertEqual(query, good.call('query'))
                 self.assertEqual(signed, good.call('sign', 'k', b'x'))
                 self.assertEqual(archived,
                                  good.operation('Archive', [Item('UniqueIdentifier', 'a')]))
                 self.assertEqual(activated, good.call('activate', 'k 1'))
+            with client_of('transparent') as keys:
+                self.assertEqual(key, keys.call('get', 'PublicKey.EC'))
             self.assertEqual(kmip.batch().call('query').send(), [query])
 
     def test_an_error_stands_in_the_place_of_an_answer(self) -> None:

@@ -3,7 +3,7 @@ use crate::answer::Answer;
 use crate::batch::{Batch, Ids};
 use crate::error::{Error, Result};
 use crate::item::Item;
-use crate::library::{self, BadHead, NoRequest, Operation, Status, NO_ITEMS};
+use crate::library::{self, BadHead, NoRequest, Operation, Status};
 use crate::log::{Begun, Event, EventKind, Log};
 use crate::options::Given;
 use crate::record::{self, Record};
@@ -567,7 +567,7 @@ impl Asked<'_> {
             Status::Answered => {
                 Answer::of_line(line, response).ok_or_else(|| Error::of_line("", true))
             }
-            Status::Refused => as_tree(self, response, Error::of_line(&line, false)),
+            Status::Refused => Err(Error::of_line(&line, false)),
             Status::Lost => Err(Error::of_line(&line, true)),
             Status::Grammar => Err(self.grammar()),
             Status::Memory => Err(Error::memory()),
@@ -604,34 +604,6 @@ fn exchange<T: Read + Write>(stream: &mut T, request: &[u8], limit: u32) -> Resu
     Ok(response)
 }
 
-/// After a refusal: what the tables of a call have no words for, as a key of EC, is answered as the
-/// operation of the call has it, where the same bytes are a success of that.
-fn as_tree(asked: Asked<'_>, response: Vec<u8>, refusal: Error) -> Result<Answer> {
-    let Asked::Words(words, _) = asked else { return Err(refusal) };
-    let mut texts = words.texts();
-    let name = match texts.next() {
-        Some("get") => "Get",
-        Some("attributes") => "GetAttributes",
-        _ => return Err(refusal),
-    };
-    let identifier = texts.next();
-    // What was to be wrapped is not given as anything else.
-    if texts.any(|text| text.starts_with("wrap=")) {
-        return Err(refusal);
-    }
-    let call = Operation::new(name, "1.2", NO_ITEMS);
-    let (Status::Answered, line) = library::operation_answer(&call, &response) else {
-        return Err(refusal);
-    };
-    let Some(answer) = Answer::of_line(line, response) else { return Err(refusal) };
-    let Some(tree) = answer.tree() else { return Err(refusal) };
-    match tree.text_at("UniqueIdentifier") {
-        Ok(found) if identifier == Some(found) => Ok(answer),
-        Ok(_) => Err(Error::other_object("the response is about another object")),
-        Err(_) => Err(refusal),
-    }
-}
-
 /// Reads as many bytes as there is room for.
 fn read(stream: &mut impl Read, into: &mut [u8]) -> Result<()> {
     let mut done = 0;
@@ -651,6 +623,7 @@ fn read(stream: &mut impl Read, into: &mut [u8]) -> Result<()> {
 #[cfg(test)]
 mod tests {
     use super::*;
+    use crate::library::NO_ITEMS;
 
     /// A stream that has failed where it is used.
     struct Unused;

@@ -72,8 +72,23 @@ done
 call_is 'an HMAC key is got as what the server has' 0 get HMAC
 says 'which is the tree of its payload' '"tag": ?"KeyBlock".*"736563726574"'
 call_is 'and has no PEM form' 1 pem HMAC
+call_is 'an HMAC key in a format' 0 get HMAC format=Raw
+says 'is got so, too' '"tag": ?"KeyBlock".*"736563726574"'
+call_is 'a certificate request, of a later KMIP' 0 get request
+says 'is got as what the server has' '"tag": ?"CertificateRequest".*"72657175657374"'
+call_is 'a key without its value' 0 get 'no value'
+says 'is got as what the server has' '"tag": ?"KeyFormatType".*"Raw".*"tag": ?"CryptographicAlgorithm".*"AES"'
+call_is 'and has no PEM form' 1 pem 'no value'
 call_is 'a key of EC that was to be wrapped, and is not' 1 get PrivateKey.EC wrap=k
 says_not 'is not shown' KeyMaterial
 call_is 'attributes of no table are what the server has' 0 attributes k
-says 'which is the tree of its payload' 'x-of ours'
+says 'which is the tree of its payload' '"tag": ?"AttributeName".*"Cryptographic Algorithm".*"ECDSA"'
+call_is 'such an attribute by its name' 0 attributes k 'Cryptographic Algorithm'
+says 'is the same' '"tag": ?"AttributeName".*"Cryptographic Algorithm".*"ECDSA"'
+call_is 'an attribute that is in a table' 0 attributes elsewhere
+says 'is no tree' '"attributes": ?\[\{"name": ?"x-of ours"'
 call_is 'an answer about another object' 3 get elsewhere
+says 'is said to be one' 'answer for another object'
+call_is 'attributes of another object' 3 attributes moved
+call_is 'an answer about no object' 3 get nameless
+says_not 'is not shown' KeyMaterial
