@@ -398,7 +398,8 @@ class Opening(unittest.TestCase):
                        '-----END CERTIFICATE-----\n')
         for what, cert, ca in (('authority', CERTS + '/client.pem', path),
                                ('certificate', path, CERTS + '/ca.pem')):
-            with self.subTest(what), self.assertRaisesRegex(ConnectError, '^%s .* encrypted$' % what):
+            wanted = '^%s .* encrypted$' % what
+            with self.subTest(what), self.assertRaisesRegex(ConnectError, wanted):
                 Client('localhost', PORTS['good'], cert=cert, key=key, ca=ca)
 
     def test_a_port_that_is_none(self) -> None:
