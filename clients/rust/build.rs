@@ -57,7 +57,11 @@ fn of_version(folder: PathBuf) -> Result<PathBuf, String> {
     let library = String::from_utf8_lossy(&library);
     // What `kmip_version` may return: "2.0, not proved".
     let is_it = library.match_indices(", not proved").any(|(at, _)| {
-        library[..at].trim_end_matches(|digit: char| digit.is_ascii_digit()).ends_with(major)
+        let front = library[..at].trim_end_matches(|digit: char| digit.is_ascii_digit());
+        // ("12.0" is of another one)
+        front
+            .strip_suffix(major)
+            .is_some_and(|front| !front.ends_with(|it: char| it.is_ascii_digit()))
     });
     is_it.then_some(folder).ok_or_else(|| {
         format!("{} is not of version {major}x, which the crate is for", path.display())

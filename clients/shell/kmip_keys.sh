@@ -51,7 +51,8 @@ kmip_read_object() { # KIND FILE
         count=$(grep -c -e '^-----BEGIN ' -- "$2" 2>/dev/null) || count=0
         ((count < 2)) || return
         ! grep -q -e 'PRIVATE KEY-----' -- "$2" 2>/dev/null || return
-        KMIP_WORDS+=("$(openssl x509 -in "$2" -outform DER 2>/dev/null | kmip_hex)")
+        # (without -passin openssl would ask the terminal where a block is encrypted)
+        KMIP_WORDS+=("$(openssl x509 -in "$2" -outform DER -passin pass: 2>/dev/null | kmip_hex)")
         [[ -n ${KMIP_WORDS[1]} ]]
         ;;
     secret)

@@ -471,7 +471,7 @@ def endless(wire, request):
 @fake
 def many_operations(wire, request):
     """answers query with 60,000 operations"""
-    wire.sendall(response(QUERY, [enumeration(0x42005C, 1 + i % 40) for i in range(60000)]))
+    wire.sendall(response(QUERY, [b''.join(enumeration(0x42005C, 1 + i) for i in range(40)) * 1500]))
 
 
 # Answers to another call, and answers that say other things.

@@ -34,7 +34,7 @@
 #   linter_says WHAT TOOL VERSION PACKAGE COMMAND..    COMMAND finds nothing; it is skipped where there is no TOOL, and what
 #                            another version than VERSION (a regex) finds is said, and fails nothing
 #
-# Seconds count $slack times, so that a busy machine fails nothing.
+# Seconds count $slack times, so that a busy machine fails nothing; KMIP_TIMEOUT is 20 of them, where a case sets no other.
 #
 # Settings go before a call, as in `KMIP_LIMIT=100 call_is 'a response over the limit' 3 query` or
 # `certificate=$certs/plain.pem key=$certs/plain.key call_is ..`.
@@ -246,6 +246,8 @@ run_case() { # NUMBER CLIENT FILE
         mkdir -p "$work"
         cd "$work" || exit
         : >"$said"
+        # (a client's own 30 seconds are over where a machine is busy)
+        export KMIP_TIMEOUT=$((20 * slack))
         started=() groups=()
         trap stop_all EXIT
         trap 'exit 130' INT TERM

@@ -306,6 +306,36 @@ static void kinds(void) {
           "the library has the version of its header, and says what it was compiled from");
 }
 
+/* Whether a number stands in place of a length, and is no status. Two that were equal would be an
+   error of the compiler. */
+static bool is_no_length(int64_t number) {
+    switch (number) {
+    case KMIP_LENGTH_GRAMMAR:
+    case KMIP_LENGTH_ABSENT:
+    case KMIP_LENGTH_LIMIT:
+    case KMIP_LENGTH_MEMORY:
+    case KMIP_LENGTH_NO_FORM: return true;
+    case KMIP_ANSWERED:
+    case KMIP_REFUSED:
+    case KMIP_CALL_GRAMMAR:
+    case KMIP_LOST:
+    case KMIP_NO_MEMORY:
+    default: return false;
+    }
+}
+
+/* What the library gives in place of a length is none of the statuses of a call. */
+static void no_lengths(void) {
+    const kmip_word call = kmip_text_word("sing");
+    const uint8_t none[8] = {0};
+    uint8_t room[8];
+    int64_t absent = kmip_contents_len(none, sizeof none, 0);
+    int64_t grammar = kmip_request(&call, 1, none, 0, false, none, 0, none, 0, room, sizeof room);
+    check(is_no_length(absent) && absent == KMIP_LENGTH_ABSENT, "a head that is none");
+    check(is_no_length(grammar) && grammar == KMIP_LENGTH_GRAMMAR, "a call that is none");
+    check(!is_no_length(KMIP_LOST), "no status is a length");
+}
+
 /* Whether the request of a search has this text. */
 static bool asks_for(const kmip_words *words, const char *text) {
     uint8_t request[4096];
@@ -349,6 +379,7 @@ int main(int argc, char **argv) {
         queue(&settings);
         sizes(&settings);
         kinds();
+        no_lengths();
         searches();
     }
     if (strcmp(mode, "ends") == 0) abandons(settings);

@@ -59,6 +59,21 @@ def _mask_of(names: str) -> int:
     return bits - (bits >> 31 << 32)
 
 
+def _number_of(kind: str, value: Union[int, str]) -> int:
+    """The number that a value of this type is.
+
+    :raises KeyError: it is none
+    :raises ValueError: it is none
+    """
+    if isinstance(value, int):
+        return value
+    if kind == 'Integer':
+        return _mask_of(value)
+    if value.startswith('0x'):
+        return int.from_bytes(bytes.fromhex(value[2:]), 'big', signed=True)
+    return (datetime.datetime.fromisoformat(value) - EPOCH) // datetime.timedelta(seconds=1)
+
+
 def _shown(item: Any) -> str:
     """An item, or a dict that is one, with no value: tags and types alone."""
     if not isinstance(item, Mapping):
@@ -148,7 +163,10 @@ class Item(Dict[str, Any]):
         :raises MissingValue: there are none
         """
         digits: str = self._value_at(path, 'bytes', 'ByteString', 'BigInteger')
-        return bytes.fromhex(digits[2:] if digits.startswith('0x') else digits)
+        try:
+            return bytes.fromhex(digits[2:] if digits.startswith('0x') else digits)
+        except ValueError:
+            raise MissingValue('%s has no bytes at %s' % (self['tag'], path)) from None
 
     def name_at(self, path: str) -> str:
         """The name of the Enumeration at a path, or its number as ``0x00000001`` where its table is
@@ -166,13 +184,10 @@ class Item(Dict[str, Any]):
         :raises MissingValue: there is none
         """
         value = self._value_at(path, 'number', 'Integer', 'LongInteger', 'Interval', 'DateTime')
-        if isinstance(value, int):
-            return value
-        if self.at(path)['type'] == 'Integer':
-            return _mask_of(value)
-        if value.startswith('0x'):
-            return int.from_bytes(bytes.fromhex(value[2:]), 'big', signed=True)
-        return (datetime.datetime.fromisoformat(value) - EPOCH) // datetime.timedelta(seconds=1)
+        try:
+            return _number_of(self.at(path)['type'], value)
+        except (KeyError, ValueError):
+            raise MissingValue('%s has no number at %s' % (self['tag'], path)) from None
 
 
 def attribute(name: str, value: Value) -> Item:

@@ -18,6 +18,8 @@ Port = Union[int, str]
 Done = TypeVar('Done')
 # OpenSSL's X509_V_FLAG_PARTIAL_CHAIN, which ssl has a name for since Python 3.10.
 PARTIAL_CHAIN = ssl.VerifyFlags(0x80000)
+# The line that a certificate begins with in PEM.
+CERTIFICATE = rb'^-----BEGIN .*CERTIFICATE-----\s*\n'
 # The most bytes that TLS is given before the clock is looked at: a record has as many.
 PIECE = 1 << 14
 
@@ -55,9 +57,11 @@ def context_of(cert: str, key: str, ca: str, passphrase: Passphrase) -> ssl.SSLC
                 pass
         except OSError as error:
             raise ConnectError('%s %s: %s' % (what, path, error.strerror)) from error
-    if _has(ca, b'^Proc-Type:.*ENCRYPTED'):
-        # OpenSSL would ask the terminal for its passphrase.
-        raise ConnectError('authority %s: a block of it is encrypted' % ca)
+    # (the key may stand in the file of the certificate, and is read from its own)
+    for what, path, front in (('certificate', cert, CERTIFICATE), ('authority', ca, b'')):
+        if _has(path, front + b'^Proc-Type:.*ENCRYPTED'):
+            # OpenSSL would ask the terminal for its passphrase.
+            raise ConnectError('%s %s: a block of it is encrypted' % (what, path))
     try:
         context.load_verify_locations(ca)
     except ssl.SSLError as error:

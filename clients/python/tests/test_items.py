@@ -112,6 +112,15 @@ class Read(unittest.TestCase):
         with self.assertRaises(MissingValue):
             self.payload.text_at('State')
 
+    def test_a_value_that_is_none_of_its_type_is_missing(self) -> None:
+        for value, kind in (('Encrypt|Fly', 'Integer'), ('', 'Integer'), ('0xZZ', 'Integer'),
+                            ('0xZZ', 'LongInteger'), ('soon', 'DateTime')):
+            with self.subTest((value, kind)), self.assertRaises(MissingValue):
+                Item('ResponsePayload', [Item('AttributeValue', value, kind)]).number_at(
+                    'AttributeValue')
+        with self.assertRaises(MissingValue):
+            Item('ResponsePayload', [Item('Data', '0', 'ByteString')]).bytes_at('Data')
+
     def test_an_item_of_json_is_one_of_items(self) -> None:
         item = Item.of_json(json.loads(json.dumps(self.payload)))
         self.assertIsInstance(item.at('Attribute.1.AttributeName'), Item)

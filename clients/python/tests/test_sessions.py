@@ -390,15 +390,17 @@ class Opening(unittest.TestCase):
             with client_of('good', host='localhost.') as kmip:
                 kmip.query()
 
-    def test_an_authority_that_is_encrypted(self) -> None:
-        path = os.path.join(CERTS, 'encrypted_authority.pem')
+    def test_certificates_that_are_encrypted(self) -> None:
+        path, key = os.path.join(CERTS, 'encrypted_block.pem'), CERTS + '/client.key'
         with open(path, 'w', encoding='ascii') as file:
             file.write('-----BEGIN CERTIFICATE-----\nProc-Type: 4,ENCRYPTED\n'
                        'DEK-Info: AES-256-CBC,00112233445566778899AABBCCDDEEFF\n\nAAAA\n'
                        '-----END CERTIFICATE-----\n')
-        cert, key = CERTS + '/client.pem', CERTS + '/client.key'
-        with self.assertRaisesRegex(ConnectError, 'encrypted'):
-            Client('localhost', PORTS['good'], cert=cert, key=key, ca=path)
+        for what, cert, ca in (('authority', CERTS + '/client.pem', path),
+                               ('certificate', path, CERTS + '/ca.pem')):
+            wanted = '^%s .* encrypted$' % what
+            with self.subTest(what), self.assertRaisesRegex(ConnectError, wanted):
+                Client('localhost', PORTS['good'], cert=cert, key=key, ca=ca)
 
     def test_a_port_that_is_none(self) -> None:
         # getaddrinfo would take the first three for that of the server

@@ -309,7 +309,7 @@ fn mask_of(names: &str) -> Option<i32> {
 
 /// The bits of a name, or of `0x` and eight digits.
 fn bits_of(name: &str) -> Option<i32> {
-    if let Some(digits) = name.strip_prefix("0x").filter(|digits| digits.len() == 8) {
+    if let Some(digits) = hex_digits(name, 8) {
         let bits = u32::from_str_radix(digits, 16).ok()?;
         return Some(i32::from_be_bytes(bits.to_be_bytes()));
     }
@@ -322,9 +322,16 @@ fn bits_of(name: &str) -> Option<i32> {
     }
 }
 
+/// The hex digits behind `0x`, where there are so many and nothing else: `from_str_radix` would take
+/// a sign for one of them.
+fn hex_digits(text: &str, count: usize) -> Option<&str> {
+    let digits = text.strip_prefix("0x").filter(|digits| digits.len() == count)?;
+    digits.bytes().all(|digit| digit.is_ascii_hexdigit()).then_some(digits)
+}
+
 /// The number of 64 bits that a text as `0x0000000047DA67F8` is.
 fn hex_number(json: &Json) -> Option<i64> {
-    let digits = json.as_text()?.strip_prefix("0x").filter(|digits| digits.len() == 16)?;
+    let digits = hex_digits(json.as_text()?, 16)?;
     u64::from_str_radix(digits, 16).ok().map(|bits| i64::from_be_bytes(bits.to_be_bytes()))
 }
 
@@ -507,6 +514,9 @@ mod tests {
             r#"{"tag":"BatchCount","type":"Integer","value":2147483648}"#,
             r#"{"tag":"CryptographicUsageMask","type":"Integer","value":"Encrypt|"}"#,
             r#"{"tag":"CryptographicUsageMask","type":"Integer","value":"0x0000000G"}"#,
+            r#"{"tag":"CryptographicUsageMask","type":"Integer","value":"0x+0000001"}"#,
+            r#"{"tag":"ValidityDate","type":"LongInteger","value":"0x+000000000000001"}"#,
+            r#"{"tag":"ValidityDate","type":"DateTime","value":"0x+000000000000001"}"#,
             r#"{"tag":"TimeStamp","type":"DateTime","value":"2008-03-14"}"#,
         ] {
             assert!(of_text(text).is_none(), "{text}");

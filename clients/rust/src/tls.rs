@@ -521,3 +521,79 @@ impl Drop for TlsStream {
         }
     }
 }
+
+#[cfg(test)]
+mod tests {
+    use super::*;
+    use openssl::asn1::Asn1Time;
+    use openssl::ec::{EcGroup, EcKey};
+    use openssl::hash::MessageDigest;
+    use openssl::nid::Nid;
+    use openssl::ssl::SslAcceptor;
+    use openssl::x509::extension::SubjectAlternativeName;
+    use openssl::x509::{X509Name, X509};
+    use std::net::TcpListener;
+
+    /// A certificate that signs itself, with a common name and perhaps an alternative one.
+    fn certificate(key: &PKey<Private>, common: &str, alternative: Option<&str>) -> X509 {
+        let mut name = X509Name::builder().unwrap();
+        name.append_entry_by_text("CN", common).unwrap();
+        let name = name.build();
+        let mut made = X509::builder().unwrap();
+        made.set_version(2).unwrap();
+        made.set_subject_name(&name).unwrap();
+        made.set_issuer_name(&name).unwrap();
+        made.set_pubkey(key).unwrap();
+        made.set_not_before(&Asn1Time::days_from_now(0).unwrap()).unwrap();
+        made.set_not_after(&Asn1Time::days_from_now(1).unwrap()).unwrap();
+        if let Some(alternative) = alternative {
+            let mut names = SubjectAlternativeName::new();
+            let names = names.dns(alternative).build(&made.x509v3_context(None, None)).unwrap();
+            made.append_extension(names).unwrap();
+        }
+        made.sign(key, MessageDigest::sha256()).unwrap();
+        made.build()
+    }
+
+    /// The handshake with a server that has this certificate, which is trusted, as this host.
+    fn handshake(common: &str, alternative: Option<&str>, host: &str) -> io::Result<TlsStream> {
+        let group = EcGroup::from_curve_name(Nid::X9_62_PRIME256V1).unwrap();
+        let key = PKey::from_ec_key(EcKey::generate(&group).unwrap()).unwrap();
+        let certificate = certificate(&key, common, alternative);
+        let mut server = SslAcceptor::mozilla_intermediate_v5(SslMethod::tls()).unwrap();
+        server.set_private_key(&key).unwrap();
+        server.set_certificate(&certificate).unwrap();
+        let server = server.build();
+        let listener = TcpListener::bind(("127.0.0.1", 0)).unwrap();
+        let port = listener.local_addr().unwrap().port();
+        // What a client that is content with it waits for; it ends where the client is not.
+        thread::spawn(move || server.accept(listener.accept().unwrap().0).map(drop));
+        let mut context = strict_context().unwrap();
+        context.cert_store_mut().add_cert(certificate).unwrap();
+        let mut ssl = Ssl::new(&context.build()).unwrap();
+        check_name(&mut ssl, TlsConnector::new(host, port).name().unwrap()).unwrap();
+        let stream = TcpStream::connect(("127.0.0.1", port)).unwrap();
+        TlsStream::connect(ssl, stream, Time::new(Some(Duration::from_secs(100))))
+    }
+
+    #[test]
+    fn a_name_is_an_alternative_one_and_whole() {
+        let rows = [
+            ("server", Some("kms.example.test"), "kms.example.test", true),
+            ("server", Some("kms.example.test"), "kms.example.test.", true),
+            ("server", Some("*.example.test"), "kms.example.test", true),
+            ("server", Some("k*.example.test"), "kms.example.test", false),
+            ("kms.example.test", Some("other.example.test"), "kms.example.test", false),
+            ("kms.example.test", None, "kms.example.test", false),
+        ];
+        for (common, alternative, host, is_taken) in rows {
+            match handshake(common, alternative, host) {
+                Ok(_) => assert!(is_taken, "{common} {alternative:?} {host}"),
+                Err(error) => {
+                    let text = error.to_string().to_lowercase();
+                    assert!(!is_taken && text.ends_with("hostname mismatch"), "{error}");
+                }
+            }
+        }
+    }
+}

@@ -24,6 +24,8 @@ checks_fail 'a variable that is not set, after some' tools/live/harness.sh '/^gi
 says 'what has passed is shown' '^ok '
 checks_fail 'a case that breaks off' clients/tests/live/versions.sh '/^has_version clients.rust/i exit 0'
 says 'it is said' 'versions.sh broke off'
+checks_fail 'a file that is not there' clients/tests/live/versions.sh 's/clients.c.Makefile/clients\/c\/none/'
+says 'it has no version' '^FAILED  shell: clients/c/none has the version'
 checks_fail 'a case that is lost' clients/tests/live/versions.sh '/^has_version clients/d' --least shell=4
 says 'it is said how many have passed' '^FAILED  shell: 3 checks have passed, and at least 4 should$'
 rm -rf copy/clients copy/tools && cp -r whole/* copy

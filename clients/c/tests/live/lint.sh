@@ -16,3 +16,6 @@ linter_says 'clang-tidy finds nothing' clang-tidy ' 14\.' clang-tidy \
     clang-tidy --quiet --warnings-as-errors='*' ./*.c -- -std=c11
 linter_says 'the layout is that of .clang-format' clang-format ' 14\.' clang-format \
     clang-format --style=file:.clang-format --dry-run -Werror ./*.c ./*.h tests/*.c tests/*.h tests/*/*.c ../web/tests/*.c
+# What an error is, programs are told by kmip_error_kind: a line has the server's text, too.
+! grep -nE '(strstr|strcmp|strncmp)\(kmip_line' call.c life.c rotate.c ../openssl/*.c README.md ../../docs/OPENSSL.md >"$said" 2>&1
+verdict 'no example looks for an error in the text of a line'

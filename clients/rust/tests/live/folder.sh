@@ -14,10 +14,13 @@ for folder in . "$work"; do
 done
 rm "$run/rust/source/libmetsuwan.a"
 # A library of another version, whose calls have other arguments.
-mkdir other && sed 's/2\.\([0-9]*, not proved\)/1.\1/' "$built/libmetsuwan.a" >other/libmetsuwan.a
-! builds "$work/other"
-verdict 'the crate is not built with a library of another version'
-says 'which is said' 'other/libmetsuwan\.a is not of version 2\.x'
+mkdir other
+for version in 1 12; do
+    sed "s/2\.\([0-9]*, not proved\)/$version.\1/" "$built/libmetsuwan.a" >other/libmetsuwan.a
+    ! builds "$work/other"
+    verdict "the crate is not built with a library of version $version"
+    says 'which is said' 'other/libmetsuwan\.a is not of version 2\.x'
+done
 builds "$built"
 verdict 'it is, with the folder of the library'
 if compgen -G '/usr/local/lib/libmetsuwan.a' >"$said" || compgen -G '/usr/lib*/libmetsuwan.a' >"$said"; then

@@ -11,3 +11,9 @@ RUSTDOCFLAGS='-D warnings' cargo_of_copy doc --no-deps --features openssl >"$sai
 verdict 'each public item has its documentation'
 [[ -z $(cargo_of_copy tree --edges normal --prefix none --no-dedupe 2>"$said" | sed 1d) ]]
 verdict 'without its feature the crate stands on no other'
+# What a later version may add to breaks no program.
+awk '/^ *#\[non_exhaustive\]/ { open = 1 } /^ *(\/\/\/|#\[|$)/ { next }
+    /^pub (enum|struct) / { kind = $2; name = FILENAME ": " $0; if (kind == "enum" && !open) print name; within = kind == "struct" && !open }
+    within && /^    pub [a-z_]+:/ { print name; within = 0 } /^}/ { within = 0 } { open = 0 }' "$top"/clients/rust/src/*.rs >"$said" 2>&1
+[[ ! -s $said ]]
+verdict 'each public enumeration, and each structure with public fields, is non_exhaustive'

@@ -41,6 +41,8 @@ done
 script_is 'streams that are closed' 0 'open; KMIP_RECORD=$work/recorded kmip sign a 41 <&- 2>&-; kmip_close'
 [[ $(wc -l <recorded) == 1 ]] && grep -q '^sign a 41 42007B01[0-9A-F]*$' recorded
 verdict 'get nothing of what is opened'
+script_is 'a host with the dot that ends a whole name' 0 'kmip_client_words kms.example.:5696 "$certificate" "$key" "$authority"
+    [[ " ${KMIP_WORDS[*]} " == *" -verify_hostname kms.example -servername kms.example "* ]]'
 script_is 'settings that are empty are not set' 0 'KMIP_TIMEOUT= KMIP_LIMIT= KMIP_RECORD= KMIP_CALL=; PATH=$(dirname "$built/kmip_call"):$PATH; open; kmip query; kmip_close'
 certificate=$certs/chained.pem key=$certs/chained.key
 fake certificate

@@ -23,6 +23,15 @@ printf '. "%s"\nkmip_open "%s" "%s" "%s" "%s"; kmip query; echo "status $?"\n' "
 timeout $((20 * slack)) "$python" -c 'import pty, sys; pty.spawn(["bash", sys.argv[1]])' "$work/ask.sh" >"$said" 2>&1 </dev/null
 says 'at a terminal: status 3' '^status 3'
 says_not 'at a terminal: no question' 'Enter pass'
+{
+    printf -- '-----BEGIN CERTIFICATE-----\nProc-Type: 4,ENCRYPTED\nDEK-Info: AES-256-CBC,000102030405060708090A0B0C0D0E0F\n\n'
+    tail -n +2 "$certs/client.pem"
+} >encrypted.pem
+printf '. "%s"\nkmip_open "%s" "%s" "%s" "%s"; kmip register-certificate encrypted.pem; echo "status $?"\n' \
+    "$top/clients/shell/kmip.sh" "$host:$port" "$certs/client.pem" "$certs/client.key" "$authority" >register.sh
+timeout $((20 * slack)) "$python" -c 'import pty, sys; pty.spawn(["bash", sys.argv[1]])' register.sh >"$said" 2>&1 </dev/null
+says 'at a terminal, an encrypted certificate to register: status 2' '^status 2'
+says_not 'at a terminal, an encrypted certificate to register: no question' 'Enter pass'
 
 # While a call waits, the words of all processes, and the environment of openssl and kmip_call.
 fake held
