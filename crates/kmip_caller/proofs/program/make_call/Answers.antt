@@ -22,16 +22,20 @@ returns-in_err-end-in-Some-clause-broken_off g c =
     on_err c.from_residual-in_err-end-in-Some.result c.in_err-end-in-Some.ensures.broken_off
 
 pub returns-in_err-end-in-Some-clause-wire : goal.returns-in_err-end-in-Some-clause-wire
-returns-in_err-end-in-Some-clause-wire g c = asked_clash c.args.order.now _ _ (rw c.in-Some.is at c.in_ok-requested.ensures)
+returns-in_err-end-in-Some-clause-wire g c =
+    asked_clash c.args.order.now _ _ (rw c.in-Some.is at c.in_ok-requested.ensures)
 
 pub returns-in_err-end-in-Some-clause-source : goal.returns-in_err-end-in-Some-clause-source
-returns-in_err-end-in-Some-clause-source g c = asked_clash c.args.order.now _ _ (rw c.in-Some.is at c.in_ok-requested.ensures)
+returns-in_err-end-in-Some-clause-source g c =
+    asked_clash c.args.order.now _ _ (rw c.in-Some.is at c.in_ok-requested.ensures)
 
 pub returns-in_ok-end-in-Some-clause-wire : goal.returns-in_ok-end-in-Some-clause-wire
-returns-in_ok-end-in-Some-clause-wire g c = asked_clash c.args.order.now _ _ (rw c.in-Some.is at c.in_ok-requested.ensures)
+returns-in_ok-end-in-Some-clause-wire g c =
+    asked_clash c.args.order.now _ _ (rw c.in-Some.is at c.in_ok-requested.ensures)
 
 pub returns-in_ok-end-in-Some-clause-source : goal.returns-in_ok-end-in-Some-clause-source
-returns-in_ok-end-in-Some-clause-source g c = asked_clash c.args.order.now _ _ (rw c.in-Some.is at c.in_ok-requested.ensures)
+returns-in_ok-end-in-Some-clause-source g c =
+    asked_clash c.args.order.now _ _ (rw c.in-Some.is at c.in_ok-requested.ensures)
 
 pub returns-in_ok-end-in-Some-clause-words : goal.returns-in_ok-end-in-Some-clause-words
 returns-in_ok-end-in-Some-clause-words g c =
