@@ -1,11 +1,14 @@
 #!/usr/bin/env python3
 """Writes the grammar of calls into the clients and their documents.
 
-    kmip_call --grammar | clients/grammar.py            writes it
-    kmip_call --grammar | clients/grammar.py --check    says which files differ from it; status 1 where one does
+    { kmip_call --grammar; kmip_call --operations; } | clients/grammar.py [--check]
 
-What is written stands between two lines, `clients/grammar.py: NAME` and `clients/grammar.py: end`, each in a comment of
-the file's language. All of it comes from the program's own table, crates/kmip_request_words/src/grammar.rt.
+With --check it writes nothing and says which files differ from it; the status is 1 where one does.
+
+What is written stands between two lines, `clients/grammar.py: NAME` and `clients/grammar.py: end`,
+each in a comment of the file's language. All of it comes from the program's own two tables:
+crates/kmip_request_words/src/grammar.rt, as JSON, and crates/kmip_operation_words/src/table.rt, as
+a form for each call.
 """
 import json
 import os
@@ -19,12 +22,29 @@ PYTHON = {'Int': 'NUMBER', 'Seconds': 'NUMBER', 'Hex': 'BYTES', 'Request': 'BYTE
 # What the kinds that have no names are called in a manual.
 SAID = {'Identifier': 'an identifier', 'Text': 'a text', 'Int': 'a number', 'Seconds': 'seconds since 1970-01-01 UTC',
         'Flag': 'no value', 'Hex': 'bytes in hex digits'}
+# The types in Python of what stands in a form, as a word or as an option's value; others are texts.
+FORM_TYPES = {'DATA': 'BYTES', 'MAC': 'BYTES', 'SIGNATURE': 'BYTES', 'HEX': 'BYTES',
+              'BITS': 'NUMBER', 'COUNT': 'NUMBER', 'N': 'NUMBER', 'SECONDS': 'NUMBER',
+              'USES': 'NAMES', 'true|false': 'TRUTH'}
+
+
+class Form:
+    """A call of the table of operations, as `derive-key ID METHOD [also=ID] length=N`."""
+
+    def __init__(self, line):
+        self.name, *words = line.replace('[', '').replace(']', '').split()
+        self.has_more = any(word.endswith('..') for word in words)
+        self.words = [word for word in words if '=' not in word and not word.endswith('..')]
+        # What the value of each option is, as `{'also': 'ID', 'length': 'N'}`.
+        self.options = dict(word.split('=') for word in words if '=' in word)
 
 
 class Grammar:
-    """The table, as the program prints it."""
+    """The two tables, as the program prints them."""
 
-    def __init__(self, table):
+    def __init__(self, table, lines):
+        # (a call's line of help is indented)
+        self.operations = [Form(line) for line in lines if line.strip() and line[0] != ' ']
         self.all, self.attributes, self.names = table['calls'], table['attributes'], table['names']
         # Those that are words alone, and no JSON.
         self.calls = [call for call in self.all if call['rest'] != 'Nothing']
@@ -47,9 +67,15 @@ def bare(option):
 
 def filled(front, items, last, width=100, between=', '):
     """Items in lines of at most so many characters, the later ones indented as the front is wide."""
-    text = textwrap.wrap(between.join(items), width - len(front) - len(last), break_long_words=False, break_on_hyphens=False)
-    return [(front if at == 0 else ' ' * len(front)) + line + (last if at == len(text) - 1 else '')
-            for at, line in enumerate(text)]
+    # (a space within an item is none to break a line at)
+    text = textwrap.wrap(between.join(items).replace(': ', ':\xa0'), width - len(front) - len(last),
+                         break_long_words=False, break_on_hyphens=False)
+    return [(front if at == 0 else ' ' * len(front)) + line.replace('\xa0', ' ')
+            + (last if at == len(text) - 1 else '') for at, line in enumerate(text)]
+
+
+def python_row(name, kinds):
+    return '    %r: (%s%s),' % (name, ', '.join(kinds), ',' if len(kinds) == 1 else '')
 
 
 def python_calls(grammar):
@@ -57,12 +83,23 @@ def python_calls(grammar):
         return PYTHON.get(word['kind'], 'TEXT')
     lines = ['CALLS: Dict[str, Tuple[Kind, ...]] = {']
     for call in grammar.calls:
-        kinds = [kind(word) for word in grammar.words(call)]
-        lines.append('    %r: (%s%s),' % (call['name'], ', '.join(kinds), ',' if len(kinds) == 1 else ''))
+        lines.append(python_row(call['name'], [kind(word) for word in grammar.words(call)]))
     options = [option for call in grammar.calls for option in grammar.options(call)]
     kinds = ['%r: %s' % (bare(option), kind(option)) for option in options if kind(option) != 'TEXT']
     more = [repr(call['name']) for call in grammar.calls if call['rest'] == 'Names']
     return [*lines, '}', 'MORE_TEXTS = {%s}' % ', '.join(more), *filled('OPTIONS = {', dict.fromkeys(kinds), '}')]
+
+
+def python_operations(grammar):
+    lines = ['TABLE: Dict[str, Tuple[Kind, ...]] = {']
+    kinds = ['**OPTIONS']
+    for form in grammar.operations:
+        lines.append(python_row(form.name, [FORM_TYPES.get(word, 'TEXT') for word in form.words]))
+        kinds += ['%r: %s' % (option, FORM_TYPES[value])
+                  for option, value in form.options.items() if value in FORM_TYPES]
+    more = ['*MORE_TEXTS', *(repr(form.name) for form in grammar.operations if form.has_more)]
+    return [*lines, '}', 'MORE = {%s}' % ', '.join(more), 'KINDS: Dict[str, Kind] = {',
+            *filled('    ', dict.fromkeys(kinds), '}')]
 
 
 def python_uses(grammar):
@@ -71,14 +108,26 @@ def python_uses(grammar):
             '    %s))}' % names[-1]]
 
 
+def rust_row(name, count, places):
+    return '    ("%s", %s, &[%s]),' % (name, count, ', '.join(map(str, places)))
+
+
 def rust_calls(grammar):
     def row(call):
         kinds = [word['kind'] for word in grammar.words(call)]
-        places = [str(at) for at, kind in enumerate(kinds) if kind in ('Hex', 'Request')]
+        places = [at for at, kind in enumerate(kinds) if kind in ('Hex', 'Request')]
         # Behind its words a call has options, or names that are no options, or options in the place of its words.
         count = {'Names': 'usize::MAX', 'Attributes': 0}.get(call['rest'], len(kinds))
-        return '    ("%s", %s, &[%s]),' % (call['name'], count, ', '.join(places))
+        return rust_row(call['name'], count, places)
     return ['const CALLS: [Call; %d] = [' % len(grammar.calls), *map(row, grammar.calls), '];']
+
+
+def rust_operations(grammar):
+    def row(form):
+        places = [at for at, word in enumerate(form.words) if FORM_TYPES.get(word) == 'BYTES']
+        return rust_row(form.name, 'usize::MAX' if form.has_more else len(form.words), places)
+    return ['const TABLE: [Call; %d] = [' % len(grammar.operations),
+            *map(row, grammar.operations), '];']
 
 
 def shell_calls(grammar):
@@ -93,6 +142,23 @@ def shell_calls(grammar):
             plain = len(grammar.words(call))
             lines.append('    %s) %sKMIP_OPTIONS=%s ;;' % (call['name'], 'KMIP_PLAIN=%d ' % plain if plain != 1 else '', options))
     return lines + ['    esac']
+
+
+def shell_operations(grammar):
+    alike = {}
+    for form in grammar.operations:
+        plain = len(form.words) if form.options else 1
+        alike.setdefault((plain, *form.options), []).append(form.name)
+    lines = ['    case $1 in']
+    for (plain, *options), names in alike.items():
+        front = '    %s) ' % ' | '.join(names)
+        if options:
+            front += '%sKMIP_OPTIONS=" ' % ('KMIP_PLAIN=%d ' % plain if plain != 1 else '')
+            *first, last = filled(front, options, ' " ;;', 118, ' ')
+            lines += [*(line + ' \\' for line in first), last]
+        else:
+            lines.append(front + ';;')
+    return [*lines, '    *) return 1 ;;', '    esac']
 
 
 def completion_calls(grammar):
@@ -118,6 +184,19 @@ def completion_calls(grammar):
         if kind != 'Attribute':
             lines.append("    [%s]='%s'" % (kind, ' '.join(names)))
     return lines + [')']
+
+
+def completion_operations(grammar):
+    kinds = {'USES': 'Uses', 'true|false': 'Truth'}
+    names = [form.name for form in grammar.operations]
+    plain = ['[%s]=%d' % (form.name, len(form.words)) for form in grammar.operations]
+    known = ['[%s.%s=]=%s' % (form.name, option, kinds[value]) for form in grammar.operations
+             for option, value in form.options.items() if value in kinds]
+    options = ["    [%s]='%s='" % (form.name, '= '.join(form.options))
+               for form in grammar.operations if form.options]
+    return [*filled('_kmip_table=(', names, ')', 120, ' '),
+            *filled('_kmip_plain+=(', plain, ')', 120, ' '), '_kmip_options+=(', *options, ')',
+            *filled('_kmip_kinds+=(', known, ')', 120, ' '), "_kmip_names+=([Truth]='true false')"]
 
 
 def sentence(text):
@@ -167,10 +246,12 @@ def page_calls(grammar):
 
 # Each file, with the block that it has of each name.
 BLOCKS = {
-    'clients/python/metsuwan/calls.py': {'calls': python_calls, 'uses': python_uses},
-    'clients/rust/src/word.rs': {'calls': rust_calls},
-    'clients/shell/kmip.sh': {'calls': shell_calls},
-    'clients/shell/completion.bash': {'calls': completion_calls},
+    'clients/python/metsuwan/calls.py':
+        {'calls': python_calls, 'operations': python_operations, 'uses': python_uses},
+    'clients/rust/src/word.rs': {'calls': rust_calls, 'operations': rust_operations},
+    'clients/shell/kmip.sh': {'calls': shell_calls, 'operations': shell_operations},
+    'clients/shell/completion.bash':
+        {'calls': completion_calls, 'operations': completion_operations},
     'clients/man/kmip_call.1': {'calls': man_calls, 'values': man_values},
     'docs/CALL.md': {'calls': page_calls},
 }
@@ -189,7 +270,9 @@ def main():
     check = sys.argv[1:] == ['--check']
     if sys.argv[1:] and not check:
         sys.exit(__doc__.strip())
-    grammar, differ = Grammar(json.load(sys.stdin)), False
+    grammar, differ = Grammar(json.loads(sys.stdin.readline()), sys.stdin), False
+    if not grammar.operations:
+        sys.exit('grammar.py: behind the first line are no forms, as kmip_call --operations has')
     for path, blocks in BLOCKS.items():
         with open(os.path.join(TOP, path), encoding='utf-8') as file:
             text = file.read()

@@ -52,9 +52,38 @@ _kmip_operations=(Create CreateKeyPair Register Rekey DeriveKey Certify Recertif
     GetAttributeList AddAttribute ModifyAttribute DeleteAttribute ObtainLease GetUsageAllocation Activate Revoke Destroy
     Archive Recover Validate Query Cancel Poll Notify Put RekeyKeyPair DiscoverVersions Encrypt Decrypt Sign SignatureVerify
     MAC MACVerify RNGRetrieve RNGSeed Hash CreateSplitKey JoinSplitKey)
-# What `kmip_call --operations` lists.
-_kmip_table=(encrypt decrypt mac mac-verify verify hash derive-key rekey rekey-pair certify recertify create-ec create-pair
-    create-key check attribute-list lease usage-allocation archive recover validate cancel poll rng-seed)
+# The same of the calls that `kmip_call --operations` lists.
+# clients/grammar.py: operations
+_kmip_table=(encrypt decrypt mac mac-verify verify hash derive-key rekey rekey-pair certify recertify create-ec
+             create-pair create-key check attribute-list lease usage-allocation archive recover validate cancel poll
+             rng-seed)
+_kmip_plain+=([encrypt]=2 [decrypt]=2 [mac]=2 [mac-verify]=3 [verify]=3 [hash]=1 [derive-key]=2 [rekey]=1
+              [rekey-pair]=1 [certify]=1 [recertify]=1 [create-ec]=3 [create-pair]=4 [create-key]=3 [check]=1
+              [attribute-list]=1 [lease]=1 [usage-allocation]=2 [archive]=1 [recover]=1 [validate]=1 [cancel]=1
+              [poll]=1 [rng-seed]=1)
+_kmip_options+=(
+    [encrypt]='mode= padding= hash= role= signature-algorithm= algorithm= random-iv= iv-length= tag-length= fixed-field-length= invocation-field-length= counter-length= initial-counter= iv='
+    [decrypt]='mode= padding= hash= role= signature-algorithm= algorithm= random-iv= iv-length= tag-length= fixed-field-length= invocation-field-length= counter-length= initial-counter= iv='
+    [mac]='mode= padding= hash= role= signature-algorithm= algorithm= random-iv= iv-length= tag-length= fixed-field-length= invocation-field-length= counter-length= initial-counter='
+    [mac-verify]='mode= padding= hash= role= signature-algorithm= algorithm= random-iv= iv-length= tag-length= fixed-field-length= invocation-field-length= counter-length= initial-counter='
+    [verify]='mode= padding= hash= role= signature-algorithm= algorithm= random-iv= iv-length= tag-length= fixed-field-length= invocation-field-length= counter-length= initial-counter='
+    [hash]='hash='
+    [derive-key]='type= hash= data= salt= iterations= algorithm= length= usage= name='
+    [rekey]='offset='
+    [rekey-pair]='offset='
+    [certify]='request-type= request= name='
+    [recertify]='request-type= request= offset= name='
+    [create-ec]='algorithm= length= private-usage= public-usage='
+    [create-pair]='private-usage= public-usage='
+    [create-key]='usage='
+    [check]='count= usage= lease='
+)
+_kmip_kinds+=([encrypt.random-iv=]=Truth [decrypt.random-iv=]=Truth [mac.random-iv=]=Truth
+              [mac-verify.random-iv=]=Truth [verify.random-iv=]=Truth [derive-key.usage=]=Uses
+              [create-ec.private-usage=]=Uses [create-ec.public-usage=]=Uses [create-pair.private-usage=]=Uses
+              [create-pair.public-usage=]=Uses [create-key.usage=]=Uses [check.usage=]=Uses)
+_kmip_names+=([Truth]='true false')
+# clients/grammar.py: end
 _kmip_fields=(attributes cryptographic_object data iv_counter_nonce mac_data object_type object_types operations private_key
     public_key random_bytes signature_data supported_versions unique_identifier unique_identifiers validity_indicator
     vendor_identification)

@@ -117,24 +117,30 @@ kmip_options() { # CALL
 
 # Whether `kmip_call --operations` lists a call of this name; and the same for its options.
 kmip_is_of_table() { # CALL
-    local cipher=' mode padding hash role signature-algorithm algorithm random-iv iv-length tag-length fixed-field-length'
-    cipher+=' invocation-field-length counter-length initial-counter '
+    # clients/grammar.py: operations
     case $1 in
-    encrypt | decrypt) KMIP_PLAIN=2 KMIP_OPTIONS=$cipher'iv ' ;;
-    mac) KMIP_PLAIN=2 KMIP_OPTIONS=$cipher ;;
-    mac-verify | verify) KMIP_PLAIN=3 KMIP_OPTIONS=$cipher ;;
-    hash) KMIP_OPTIONS=' hash ' ;;
-    derive-key) KMIP_PLAIN=2 KMIP_OPTIONS=' type hash data salt iterations algorithm length usage name ' ;;
-    rekey | rekey-pair) KMIP_OPTIONS=' offset ' ;;
-    certify) KMIP_OPTIONS=' request-type request name ' ;;
-    recertify) KMIP_OPTIONS=' request-type request offset name ' ;;
-    create-ec) KMIP_PLAIN=3 KMIP_OPTIONS=' algorithm length private-usage public-usage ' ;;
-    create-pair) KMIP_PLAIN=4 KMIP_OPTIONS=' private-usage public-usage ' ;;
-    create-key) KMIP_PLAIN=3 KMIP_OPTIONS=' usage ' ;;
-    check) KMIP_OPTIONS=' count usage lease ' ;;
+    encrypt | decrypt) KMIP_PLAIN=2 KMIP_OPTIONS=" mode padding hash role signature-algorithm algorithm random-iv \
+                                                   iv-length tag-length fixed-field-length \
+                                                   invocation-field-length counter-length initial-counter iv " ;;
+    mac) KMIP_PLAIN=2 KMIP_OPTIONS=" mode padding hash role signature-algorithm algorithm random-iv iv-length \
+                                     tag-length fixed-field-length invocation-field-length counter-length \
+                                     initial-counter " ;;
+    mac-verify | verify) KMIP_PLAIN=3 KMIP_OPTIONS=" mode padding hash role signature-algorithm algorithm \
+                                                     random-iv iv-length tag-length fixed-field-length \
+                                                     invocation-field-length counter-length initial-counter " ;;
+    hash) KMIP_OPTIONS=" hash " ;;
+    derive-key) KMIP_PLAIN=2 KMIP_OPTIONS=" type hash data salt iterations algorithm length usage name " ;;
+    rekey | rekey-pair) KMIP_OPTIONS=" offset " ;;
+    certify) KMIP_OPTIONS=" request-type request name " ;;
+    recertify) KMIP_OPTIONS=" request-type request offset name " ;;
+    create-ec) KMIP_PLAIN=3 KMIP_OPTIONS=" algorithm length private-usage public-usage " ;;
+    create-pair) KMIP_PLAIN=4 KMIP_OPTIONS=" private-usage public-usage " ;;
+    create-key) KMIP_PLAIN=3 KMIP_OPTIONS=" usage " ;;
+    check) KMIP_OPTIONS=" count usage lease " ;;
     attribute-list | lease | usage-allocation | archive | recover | validate | cancel | poll | rng-seed) ;;
     *) return 1 ;;
     esac
+    # clients/grammar.py: end
 }
 
 # Whether all these words are options, as NAME=TEXT.

@@ -63,7 +63,8 @@ OPTIONS = {'private-usage': NAMES, 'public-usage': NAMES, 'usage': NAMES, 'lengt
 # clients/grammar.py: end
 
 # The same of the calls of the table of operations: bytes stand where the form of a call, which the
-# library's refusal shows, has DATA, MAC, SIGNATURE or HEX. The tests compare the two.
+# library's refusal shows, has DATA, MAC, SIGNATURE or HEX.
+# clients/grammar.py: operations
 TABLE: Dict[str, Tuple[Kind, ...]] = {
     'encrypt': (TEXT, BYTES),
     'decrypt': (TEXT, BYTES),
@@ -95,7 +96,9 @@ KINDS: Dict[str, Kind] = {
     **OPTIONS, 'random-iv': TRUTH, 'iv-length': NUMBER, 'tag-length': NUMBER,
     'fixed-field-length': NUMBER, 'invocation-field-length': NUMBER, 'counter-length': NUMBER,
     'initial-counter': NUMBER, 'iv': BYTES, 'data': BYTES, 'salt': BYTES, 'iterations': NUMBER,
-    'offset': NUMBER, 'request': BYTES, 'count': NUMBER, 'lease': NUMBER}
+    'length': NUMBER, 'usage': NAMES, 'offset': NUMBER, 'request': BYTES, 'private-usage': NAMES,
+    'public-usage': NAMES, 'count': NUMBER, 'lease': NUMBER}
+# clients/grammar.py: end
 WORDS = {**CALLS, **TABLE}
 TYPED = frozenset(name.encode() for name in CALLS)
 

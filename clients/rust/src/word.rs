@@ -61,6 +61,7 @@ const CALLS: [Call; 19] = [
 // clients/grammar.py: end
 
 /// The same of the calls of the table, `kmip_call --operations`.
+// clients/grammar.py: operations
 const TABLE: [Call; 24] = [
     ("encrypt", 2, &[1]),
     ("decrypt", 2, &[1]),
@@ -87,6 +88,7 @@ const TABLE: [Call; 24] = [
     ("poll", 1, &[0]),
     ("rng-seed", 1, &[0]),
 ];
+// clients/grammar.py: end
 
 /// That each word is one where the call has bytes, a text or an option.
 fn check(name: &str, words: &[Word<'_>]) -> Result<()> {

@@ -18,8 +18,21 @@ for option in $("$built/kmip_call" --help | grep '^    kmip_call \[' | grep -o '
     grep -q "^\.It Cm .*$option" "$page" && [[ " $(declare -f _kmip_call _kmip_follow) " == *"$option"* ]]
     verdict "$option is in both"
 done
-"$built/kmip_call" --grammar | "$python" "$top/clients/grammar.py" --check >"$said" 2>&1
-verdict 'the clients and their documents have the calls that kmip_call --grammar prints'
+compared() { # SED: clients and documents with what the program prints, so edited; leaves the names of those that differ
+    { "$built/kmip_call" --grammar && "$built/kmip_call" --operations; } | sed "$1" |
+        "$python" "$top/clients/grammar.py" --check >"$said" 2>&1
+}
+compared ''
+verdict 'the clients and their documents have the calls that kmip_call --grammar and --operations print'
+differ() { # SED FILE..: these have not what is added to the program's table
+    ! compared "$1" && [[ $(sed 's/ is not as .*//' "$said" | sort) == "$(printf 'clients/%s\n' "${@:2}" | sort)" ]]
+}
+differ 's/^derive-key ID METHOD/& [new=HEX]/' python/metsuwan/calls.py shell/completion.bash shell/kmip.sh
+verdict 'an option of a call of --operations that the clients have not is found in each'
+differ 's/^derive-key ID/& HEX/' python/metsuwan/calls.py rust/src/word.rs shell/completion.bash shell/kmip.sh
+verdict 'and a word'
+differ '2,$s/ \[offset=SECONDS\]//' python/metsuwan/calls.py shell/completion.bash shell/kmip.sh
+verdict 'and an option that they have, and the program has not'
 unknown=$(for name in "${_kmip_operations[@]}"; do
     "$built/kmip_call" operation "$name" '' 2>&1 </dev/null | grep -q 'the payload: line 1' || echo "$name"
 done)
@@ -45,6 +58,11 @@ completes 'kmip sign 2 00 ha' hash= && completes 'kmip sign 2 00 hash=SHA2' SHA2
     completes 'kmip locate where state=Des' Destroyed DestroyedCompromised && completes 'kmip register p' public private &&
     completes 'kmip attribute-modify 1 name=a i' index= && completes 'kmip query h'
 verdict 'completion of options and of their values'
+completes 'kmip derive-key 5 HMAC sa' salt= && completes 'kmip derive-key 5 HMAC salt=00 length=8 i' iv= iterations= &&
+    completes 'kmip check 5 usage=Sign,Ver' Sign,Verify && completes 'kmip encrypt 5 00 random-iv=t' true &&
+    completes 'kmip mac-verify 5 00 h' && completes 'kmip mac-verify 5 00 00 h' hash= && completes 'kmip validate 5 6 h' &&
+    completes 'kmip_call user=a rekey 5 ' offset=
+verdict 'completion of those of the calls that kmip_call --operations lists'
 completes 'kmip_call cr' create create-rsa create-aes create-ec create-pair create-key && completes 'kmip_call user=a pa' password= &&
     completes 'kmip_call limit=1 s' sign && completes 'kmip_call record=a' 'a record' another &&
     completes 'kmip_call user=a destroy x' && completes 'kmip_call --v' --version &&
