@@ -124,7 +124,7 @@ kmip_is_of_table() { # CALL
     mac) KMIP_PLAIN=2 KMIP_OPTIONS=$cipher ;;
     mac-verify | verify) KMIP_PLAIN=3 KMIP_OPTIONS=$cipher ;;
     hash) KMIP_OPTIONS=' hash ' ;;
-    derive-key) KMIP_PLAIN=2 KMIP_OPTIONS=' type hash data salt iterations algorithm length usage name ' ;;
+    derive-key) KMIP_PLAIN=2 KMIP_OPTIONS=' type also mode padding hash cipher iv data salt iterations algorithm length usage name ' ;;
     rekey | rekey-pair) KMIP_OPTIONS=' offset ' ;;
     certify) KMIP_OPTIONS=' request-type request name ' ;;
     recertify) KMIP_OPTIONS=' request-type request offset name ' ;;
