@@ -64,7 +64,8 @@ hash_row = row (codes "hash") operations.Hash 1 Options
 abbrev pub derive_key_row : Row
 derive_key_row = row (codes "derive-key") operations.DeriveKey 2 Options
     (own (type ∷ id ∷ second_id ∷ method ∷ [])
-    ∷ within tags.DERIVATION_PARAMETERS (mode ∷ padding ∷ hash ∷ cipher ∷ derivation_iv ∷ derivation_data ∷ salt ∷ iterations ∷ [])
+    ∷ within tags.DERIVATION_PARAMETERS
+    (mode ∷ padding ∷ hash ∷ cipher ∷ derivation_iv ∷ derivation_data ∷ salt ∷ iterations ∷ [])
     ∷ within tags.TEMPLATE_ATTRIBUTE (algorithm_attribute ∷ length_needed ∷ usage_attribute ∷ name_given ∷ [])
     ∷ [])
 
