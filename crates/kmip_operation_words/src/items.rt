@@ -175,6 +175,25 @@ fn is_parameter(form: Form) -> bool
     }
 }
 
+/// Adds the items of a field where it is one of Cryptographic Parameters, or where it is none.
+fn push_where(
+    alloc: Global,
+    field: &FieldRow,
+    are_parameters: bool,
+    words: &[Text],
+    behind: &[Text],
+    out: &mut Vec<Tree>,
+) -> Result<bool, OutOfMemory>
+    ensures { IfOk result (λ fits. items.added fits out.new.items ≡ items.after out.old.items
+        (items.items_where are_parameters (record { all = words.now; behind = behind.now })
+        (field_view field.now))) }
+{
+    match (are_parameters, is_parameter(field.form)) {
+        (true, true) | (false, false) => push_field(alloc, field, words, behind, out),
+        _ => Ok(true),
+    }
+}
+
 /// Adds the items of those fields that are of Cryptographic Parameters, or of the others.
 fn push_fields(
     alloc: Global,
@@ -192,9 +211,7 @@ fn push_fields(
     match fields {
         [] => Ok(true),
         [first, rest @ ..] => {
-            if is_parameter(first.form) == are_parameters
-                && !push_field(alloc, first, words, behind, out)?
-            {
+            if !push_where(alloc, first, are_parameters, words, behind, out)? {
                 return Ok(false);
             }
             push_fields(alloc, rest, are_parameters, words, behind, out)
