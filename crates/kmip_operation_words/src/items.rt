@@ -232,6 +232,7 @@ fn push_around(tag: Tag, inner: Vec<Tree>, out: &mut Vec<Tree>) -> Result<(), Ou
 
 /// Adds the items of fields that stand together: Cryptographic Parameters of those of its fields
 /// that are given, where one is; then the others.
+#[tactic(auto, using(std::proofs::lemmas::List::append_assoc))]
 fn push_all_fields(
     alloc: Global,
     fields: &[FieldRow],
