@@ -206,6 +206,12 @@ class Requests(unittest.TestCase):
                 enumeration(0x420057, 2), k, enumeration(0x420031, 1), structure(
                     0x420032, structure(0x42002B, enumeration(0x420038, 6)), octets(0x420084, b'x'),
                     integer(0x42003C, 9)), structure(0x420091, bits)]),
+            (self.of('derive-key', 'k', 'ENCRYPT', also='a b', mode='CBC', padding='PKCS5',
+                     cipher='AES', iv=b'\0', data=b'x', length=128), 5, [
+                enumeration(0x420057, 2), k, identifier('a b'), enumeration(0x420031, 4), structure(
+                    0x420032, structure(0x42002B, enumeration(0x420011, 1),
+                                        enumeration(0x42005F, 3), enumeration(0x420028, 3)),
+                    octets(0x42003A, b'\0'), octets(0x420030, b'x')), structure(0x420091, bits)]),
             (self.of('rekey', 'k', offset=5), 4, [k, item(0x420058, INTERVAL, bytes(3) + b'\5')]),
             (self.of('validate', 'k', 'k'), 23, [k, k]),
             (self.of('check', 'k', usage=['Sign', 'Verify']), 9, [k, integer(0x42002C, 3)]),

@@ -19,6 +19,7 @@ const MAC: u32 = 0x23;
 const HASH: u32 = 0x27;
 const GET_ATTRIBUTE_LIST: u32 = 0x0C;
 const VALIDATE: u32 = 0x17;
+const DERIVE_KEY: u32 = 0x05;
 
 fn client(does: &[Does]) -> (Client<Script>, Sent) {
     let sent = Sent::default();
@@ -117,6 +118,34 @@ fn a_call_of_the_table_has_its_operation_and_an_id() {
     let other = item_id(&sent).expect("an ID");
     assert_eq!(sent, encryption(&other, b"\0hello", &(0..16).collect::<Vec<_>>()));
     assert_ne!(id, other);
+}
+
+/// Derive Key (KMIP 1.2, 4.6) of two objects, by AES.
+#[test]
+fn a_derivation_has_its_cipher_and_two_objects() {
+    let options = [
+        Word::Option("also", "a b"),
+        Word::Option("mode", "CBC"),
+        Word::Option("padding", "PKCS5"),
+        Word::Option("cipher", "AES"),
+        Word::Option("iv", "00FF"),
+        Word::Option("length", "128"),
+    ];
+    let words = [&[Word::Text("k"), Word::Text("ENCRYPT")], &options[..]].concat();
+    let sent = sent_by(|client| client.call("derive-key", &words));
+    let cipher = [enumeration(0x420011, 1), enumeration(0x42005F, 3), enumeration(0x420028, 3)];
+    let how = [structure(0x42002B, &cipher), bytes(0x42003A, b"\0\xFF")];
+    let length = [text(0x42000A, "Cryptographic Length"), integer(0x42000B, 128)];
+    let payload = [
+        enumeration(0x420057, 2),
+        identifier("k"),
+        identifier("a b"),
+        enumeration(0x420031, 4),
+        structure(0x420032, &how),
+        structure(0x420091, &[structure(0x420008, &length)]),
+    ];
+    let id = item_id(&sent).expect("an ID");
+    assert_eq!(sent, request(2, DERIVE_KEY, Some(&id), &payload));
 }
 
 #[test]

@@ -12,13 +12,13 @@ use Rattle.kmip_request_words.specs.Keys.{uses_of}
 use Rattle.kmip_request_words.specs.Options.{value_given}
 use Rattle.kmip_request_words.specs.Values.{int_of, number_of, bytes_of, word_text}
 use Rattle.kmip_request_words.specs.Words.{parts_between}
-use Rattle.kmip_tags.specs.Tags.{UNIQUE_IDENTIFIER, ATTRIBUTE_VALUE}
+use Rattle.kmip_tags.specs.Tags.{UNIQUE_IDENTIFIER, ATTRIBUTE_VALUE, CRYPTOGRAPHIC_PARAMETERS}
 use Rattle.kmip_enums.specs.declared.operation.Operation.{Operation}
 use Rattle.kmip_operation_words.specs.declared.rows.Kind.{Kind as TheKind}
 use Rattle.kmip_operation_words.specs.declared.rows.Kind.TheVariants as kinds
 use Rattle.kmip_operation_words.specs.Rows.{Field, Form, bare, as_parameter, as_attribute, in_domain, as_name, Place, word_at, each_behind, optional, needed, usual, always, Part, Row}
 use Rattle.kmip_operation_words.specs.Values.{value_of, not_empty, truth_of}
-use Rattle.kmip_operation_words.specs.Items.{formed, value_tag, word_items, alone, both, all_items, Words, option_items, place_items, field_items, around, grouped, part_items}
+use Rattle.kmip_operation_words.specs.Items.{formed, value_tag, word_items, alone, both, all_items, Words, option_items, place_items, field_items, is_parameter, items_where, fields_items, around, grouped, part_items}
 use Rattle.kmip_operation_words.specs.Table.{calls}
 use Rattle.kmip_operations.specs.Calls.{is_empty_identifier, has_empty_identifier, have_empty_identifier}
 use Rattle.kmip_operation_words.specs.Calls.{payload, are_of, words_of, asked_by, row_in, operation_asked}
@@ -206,11 +206,39 @@ grouped-full None given full = full
 grouped-full (Some tag) given full =
     tagged-full (nat_lt tag (2 ^ 24)) (option_map (around tag) given) (group-full tag given full)
 
+where-first : (b : Bool) (items : Option (List Tree)) → Full items
+    → Full (if b then items else Some [])
+where-first true items full = full
+where-first false items full = refl
+
+where-second : (b : Bool) (items : Option (List Tree)) → Full items
+    → Full (if b then Some [] else items)
+where-second true items full = refl
+where-second false items full = full
+
+where-full : (of : Bool) (given : Words) (field : Field) → keeps field ≡ true
+    → Full (items_where of given field)
+where-full true given field kept =
+    where-first (is_parameter field.form) (field_items given field)
+    (place-full field.place field given kept)
+where-full false given field kept =
+    where-second (is_parameter field.form) (field_items given field)
+    (place-full field.place field given kept)
+
+fields-full : (given : Words) (fields : List Field) → all_are keeps fields ≡ true
+    → Full (fields_items given fields)
+fields-full given fields kept =
+    both-full
+    (option_map (around CRYPTOGRAPHIC_PARAMETERS) (all_items (items_where true given) fields))
+    (all_items (items_where false given) fields)
+    (group-full CRYPTOGRAPHIC_PARAMETERS (all_items (items_where true given) fields)
+    (all-full keeps (items_where true given) (where-full true given) fields kept))
+    (all-full keeps (items_where false given) (where-full false given) fields kept)
+
 part-full : (given : Words) (part : Part) → part_keeps part ≡ true → Full (part_items given part)
 part-full given part kept =
-    grouped-full part.group (all_items (field_items given) part.fields)
-    (all-full keeps (field_items given) (λ field. place-full field.place field given) part.fields
-    kept)
+    grouped-full part.group (fields_items given part.fields)
+    (fields-full given part.fields kept)
 
 payload-full : (o : Option (List Tree)) (t : Tree) → Full o → option_map payload o ≡ Some t
     → has_empty_identifier t ≡ false

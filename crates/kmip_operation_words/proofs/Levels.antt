@@ -1,5 +1,5 @@
 -- What words ask for has few levels.
-use Rattle.std.proofs.Common.{◌≡◌, ◌≤◌, ℕ, List, [], ◌∷◌, ◌++◌, Option, Some, None, Bool, true, false, refl, ap, arith, subst}
+use Rattle.std.proofs.Common.{◌≡◌, ◌≤◌, ℕ, ◌+◌, List, [], ◌∷◌, ◌++◌, Option, Some, None, Bool, true, false, refl, ap, arith, subst}
 use Rattle.std.specs.Prelude.{nat_lt, ◌^◌, slice_get, IfSome, if◌then◌else◌}
 use Rattle.std.specs.Option.{option_map, option_and_then}
 use Rattle.std.proofs.lemmas.Option.{none-some, same_Some}
@@ -8,8 +8,8 @@ use Rattle.kmip_wire.specs.Bytes.{levels, levels_of_all}
 use Rattle.kmip_request_words.specs.Options.{value_given}
 use Rattle.kmip_operation_words.specs.Rows.{Field, Form, bare, as_parameter, as_attribute, in_domain, as_name, Place, word_at, each_behind, optional, needed, usual, always, Part}
 use Rattle.kmip_operation_words.specs.Values.{value_of}
-use Rattle.kmip_operation_words.specs.Items.{formed, value_tag, word_items, alone, both, all_items, Words, option_items, place_items, field_items, around, grouped, part_items}
-use Rattle.kmip_tags.specs.Tags.{REQUEST_PAYLOAD}
+use Rattle.kmip_operation_words.specs.Items.{formed, value_tag, word_items, alone, both, all_items, Words, option_items, place_items, field_items, is_parameter, items_where, fields_items, around, grouped, part_items}
+use Rattle.kmip_tags.specs.Tags.{CRYPTOGRAPHIC_PARAMETERS, REQUEST_PAYLOAD}
 use Rattle.kmip_enums.specs.declared.operation.Operation.{Operation}
 use Rattle.kmip_operation_words.specs.Rows.{Row}
 use Rattle.kmip_operation_words.specs.Table.{calls}
@@ -37,8 +37,14 @@ all-low n items low [] = omega arith
 all-low n items low (x ∷ xs) =
     both-low n (items x) (all_items items xs) (low x) (all-low n items low xs)
 
+-- how many levels a field's items have at most
+abbrev depth : Form → ℕ
+depth as_parameter = 1
+depth form = 3
+
 formed-low : (form : Form) (tag : ℕ) (value : Scalar)
-    → levels_of_all (trees_of (alone (formed form (scalar (value_tag form tag) value)))) ≤ 3
+    → levels_of_all (trees_of (alone (formed form (scalar (value_tag form tag) value))))
+    ≤ depth form
 formed-low bare tag value = omega arith
 formed-low as_parameter tag value = omega arith
 formed-low (as_attribute name) tag value = omega arith
@@ -46,36 +52,37 @@ formed-low in_domain tag value = omega arith
 formed-low as_name tag value = omega arith
 
 value-low : (form : Form) (tag : ℕ) (value : Option Scalar)
-    → Low 3 (option_map alone
+    → Low (depth form) (option_map alone
     (option_map (λ value. formed form (scalar (value_tag form tag) value)) value))
 value-low form tag None = tt
 value-low form tag (Some value) = formed-low form tag value
 
-item-low : (b : Bool) (o : Option Tree) → Low 3 (option_map alone o)
-    → Low 3 (option_map alone (if b then o else None))
-item-low true o low = low
-item-low false o low = tt
+item-low : (n : ℕ) (b : Bool) (o : Option Tree) → Low n (option_map alone o)
+    → Low n (option_map alone (if b then o else None))
+item-low n true o low = low
+item-low n false o low = tt
 
-word-low : (field : Field) (text : List ℕ) → Low 3 (word_items field text)
+word-low : (field : Field) (text : List ℕ) → Low (depth field.form) (word_items field text)
 word-low field text =
-    item-low (nat_lt field.tag (2 ^ 24))
+    item-low (depth field.form) (nat_lt field.tag (2 ^ 24))
     (option_map (λ value. formed field.form (scalar (value_tag field.form field.tag) value))
     (value_of field.kind field.tag text))
     (value-low field.form field.tag (value_of field.kind field.tag text))
 
 at-low : (field : Field) (text : Option (List ℕ))
-    → Low 3 (option_and_then (word_items field) text)
+    → Low (depth field.form) (option_and_then (word_items field) text)
 at-low field None = tt
 at-low field (Some text) = word-low field text
 
 option-low : (field : Field) (otherwise : Option (List Tree)) (text : Option (List ℕ))
-    → Low 3 otherwise → Low 3 (option_items field otherwise text)
+    → Low (depth field.form) otherwise → Low (depth field.form) (option_items field otherwise text)
 option-low field otherwise None low = low
 option-low field otherwise (Some text) low = word-low field text
 
-place-low : (place : Place) (field : Field) (given : Words) → Low 3 (place_items place field given)
+place-low : (place : Place) (field : Field) (given : Words)
+    → Low (depth field.form) (place_items place field given)
 place-low (word_at index) field given = at-low field (slice_get given.all index)
-place-low each_behind field given = all-low 3 (word_items field) (word-low field) given.behind
+place-low each_behind field given = all-low (depth field.form) (word_items field) (word-low field) given.behind
 place-low optional field given =
     option-low field (Some []) (value_given field.name given.behind) (omega arith)
 place-low needed field given = option-low field None (value_given field.name given.behind) tt
@@ -84,15 +91,15 @@ place-low (usual text) field given =
     (word-low field text)
 place-low (always text) field given = word-low field text
 
-around-low : (tag : ℕ) (items : List Tree) → levels_of_all (trees_of items) ≤ 3
-    → levels_of_all (trees_of (around tag items)) ≤ 4
-around-low tag [] low = omega arith
-around-low tag (x ∷ xs) low = omega arith
+around-low : (n tag : ℕ) (items : List Tree) → levels_of_all (trees_of items) ≤ n
+    → levels_of_all (trees_of (around tag items)) ≤ n + 1
+around-low n tag [] low = omega arith
+around-low n tag (x ∷ xs) low = omega arith
 
-group-low : (tag : ℕ) (given : Option (List Tree)) → Low 3 given
-    → Low 4 (option_map (around tag) given)
-group-low tag None low = tt
-group-low tag (Some items) low = around-low tag items low
+group-low : (n tag : ℕ) (given : Option (List Tree)) → Low n given
+    → Low (n + 1) (option_map (around tag) given)
+group-low n tag None low = tt
+group-low n tag (Some items) low = around-low n tag items low
 
 own-low : (given : Option (List Tree)) → Low 3 given → Low 4 given
 own-low None low = tt
@@ -106,12 +113,43 @@ grouped-low : (group : Option ℕ) (given : Option (List Tree)) → Low 3 given
     → Low 4 (grouped group given)
 grouped-low None given low = own-low given low
 grouped-low (Some tag) given low =
-    tagged-low (nat_lt tag (2 ^ 24)) (option_map (around tag) given) (group-low tag given low)
+    tagged-low (nat_lt tag (2 ^ 24)) (option_map (around tag) given) (group-low 3 tag given low)
+
+more-low : (n m : ℕ) (given : Option (List Tree)) → n ≤ m → Low n given → Low m given
+more-low n m None le low = tt
+more-low n m (Some items) le low = omega (arith, le)
+
+parameter-low : (form : Form) (items : Option (List Tree)) → Low (depth form) items
+    → Low 1 (if is_parameter form then items else Some [])
+parameter-low as_parameter items low = low
+parameter-low bare items low = omega arith
+parameter-low (as_attribute name) items low = omega arith
+parameter-low in_domain items low = omega arith
+parameter-low as_name items low = omega arith
+
+other-low : (form : Form) (items : Option (List Tree)) → Low (depth form) items
+    → Low 3 (if is_parameter form then Some [] else items)
+other-low as_parameter items low = omega arith
+other-low bare items low = low
+other-low (as_attribute name) items low = low
+other-low in_domain items low = low
+other-low as_name items low = low
+
+fields-low : (given : Words) (fields : List Field) → Low 3 (fields_items given fields)
+fields-low given fields =
+    both-low 3 (option_map (around CRYPTOGRAPHIC_PARAMETERS) (all_items (items_where true given) fields))
+    (all_items (items_where false given) fields)
+    (more-low 2 3 _ (omega arith) (group-low 1 CRYPTOGRAPHIC_PARAMETERS (all_items (items_where true given) fields)
+    (all-low 1 (items_where true given)
+    (λ field. parameter-low field.form (field_items given field) (place-low field.place field given))
+    fields)))
+    (all-low 3 (items_where false given)
+    (λ field. other-low field.form (field_items given field) (place-low field.place field given))
+    fields)
 
 part-low : (given : Words) (part : Part) → Low 4 (part_items given part)
 part-low given part =
-    grouped-low part.group (all_items (field_items given) part.fields)
-    (all-low 3 (field_items given) (λ field. place-low field.place field given) part.fields)
+    grouped-low part.group (fields_items given part.fields) (fields-low given part.fields)
 
 parts-low : (given : Words) (parts : List Part) → Low 4 (all_items (part_items given) parts)
 parts-low given parts = all-low 4 (part_items given) (part-low given) parts

@@ -1,2 +1,3 @@
 pub mod Identifiers
 pub mod Levels
+pub mod Additions

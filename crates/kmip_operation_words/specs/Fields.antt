@@ -8,6 +8,10 @@ use Rattle.kmip_operation_words.specs.Rows.{Field, field, bare, as_parameter, as
 abbrev pub id : Field
 id = field (codes "ID") (word_at 0) tags.UNIQUE_IDENTIFIER Identifier bare
 
+-- the identifier of a second object
+abbrev pub second_id : Field
+second_id = field (codes "also=") optional tags.UNIQUE_IDENTIFIER Identifier bare
+
 -- the identifiers of more objects
 abbrev pub ids : Field
 ids = field (codes "ID") each_behind tags.UNIQUE_IDENTIFIER Identifier bare
@@ -18,55 +22,55 @@ private_id = field (codes "ID") (word_at 0) tags.PRIVATE_KEY_UNIQUE_IDENTIFIER I
 
 -- how a block cipher is used: KMIP 1.0, 9.1.3.2.13
 abbrev pub mode : Field
-mode = field (codes "mode=") optional tags.BLOCK_CIPHER_MODE Name bare
+mode = field (codes "mode=") optional tags.BLOCK_CIPHER_MODE Name as_parameter
 
 -- how data is padded: KMIP 1.0, 9.1.3.2.14
 abbrev pub padding : Field
-padding = field (codes "padding=") optional tags.PADDING_METHOD Name bare
+padding = field (codes "padding=") optional tags.PADDING_METHOD Name as_parameter
 
 -- the hashing algorithm: KMIP 1.0, 9.1.3.2.15
 abbrev pub hash : Field
-hash = field (codes "hash=") optional tags.HASHING_ALGORITHM Name bare
+hash = field (codes "hash=") optional tags.HASHING_ALGORITHM Name as_parameter
 
 -- what the key is for: KMIP 1.0, 9.1.3.2.16
 abbrev pub role : Field
-role = field (codes "role=") optional tags.KEY_ROLE_TYPE Name bare
+role = field (codes "role=") optional tags.KEY_ROLE_TYPE Name as_parameter
 
 -- the algorithm of a signature, with its hash: KMIP 1.2, 9.1.3.2.7
 abbrev pub signature_algorithm : Field
-signature_algorithm = field (codes "signature-algorithm=") optional tags.DIGITAL_SIGNATURE_ALGORITHM Name bare
+signature_algorithm = field (codes "signature-algorithm=") optional tags.DIGITAL_SIGNATURE_ALGORITHM Name as_parameter
 
 -- the cryptographic algorithm: KMIP 1.0, 9.1.3.2.12
 abbrev pub algorithm : Field
-algorithm = field (codes "algorithm=") optional tags.CRYPTOGRAPHIC_ALGORITHM Name bare
+algorithm = field (codes "algorithm=") optional tags.CRYPTOGRAPHIC_ALGORITHM Name as_parameter
 
 -- whether the server makes the initialization vector
 abbrev pub random_iv : Field
-random_iv = field (codes "random-iv=") optional tags.RANDOM_IV Truth bare
+random_iv = field (codes "random-iv=") optional tags.RANDOM_IV Truth as_parameter
 
 -- the length of the initialization vector, in bits
 abbrev pub iv_length : Field
-iv_length = field (codes "iv-length=") optional tags.IV_LENGTH Int bare
+iv_length = field (codes "iv-length=") optional tags.IV_LENGTH Int as_parameter
 
 -- the length of the authentication tag, in bytes
 abbrev pub tag_length : Field
-tag_length = field (codes "tag-length=") optional tags.TAG_LENGTH Int bare
+tag_length = field (codes "tag-length=") optional tags.TAG_LENGTH Int as_parameter
 
 -- the length of the fixed part of a counter, in bits
 abbrev pub fixed_field_length : Field
-fixed_field_length = field (codes "fixed-field-length=") optional tags.FIXED_FIELD_LENGTH Int bare
+fixed_field_length = field (codes "fixed-field-length=") optional tags.FIXED_FIELD_LENGTH Int as_parameter
 
 -- the length of the invocation part of a counter, in bits
 abbrev pub invocation_field_length : Field
-invocation_field_length = field (codes "invocation-field-length=") optional tags.INVOCATION_FIELD_LENGTH Int bare
+invocation_field_length = field (codes "invocation-field-length=") optional tags.INVOCATION_FIELD_LENGTH Int as_parameter
 
 -- the length of the counter, in bits
 abbrev pub counter_length : Field
-counter_length = field (codes "counter-length=") optional tags.COUNTER_LENGTH Int bare
+counter_length = field (codes "counter-length=") optional tags.COUNTER_LENGTH Int as_parameter
 
 -- the first value of the counter
 abbrev pub initial_counter : Field
-initial_counter = field (codes "initial-counter=") optional tags.INITIAL_COUNTER_VALUE Int bare
+initial_counter = field (codes "initial-counter=") optional tags.INITIAL_COUNTER_VALUE Int as_parameter
 
 -- the data that the object is used on
 abbrev pub object_data : Field
@@ -86,7 +90,7 @@ signature = field (codes "SIGNATURE") (word_at 2) tags.SIGNATURE_DATA Hex bare
 
 -- the hashing algorithm, which is needed
 abbrev pub hashed_by : Field
-hashed_by = field (codes "hash=") needed tags.HASHING_ALGORITHM Name bare
+hashed_by = field (codes "hash=") needed tags.HASHING_ALGORITHM Name as_parameter
 
 -- the data, of no object
 abbrev pub data_alone : Field
@@ -104,9 +108,13 @@ symmetric_key = field (codes "type=") (always (codes "SymmetricKey")) tags.OBJEC
 abbrev pub method : Field
 method = field (codes "METHOD") (word_at 1) tags.DERIVATION_METHOD Name bare
 
--- the hashing algorithm of a derivation, which is needed
-abbrev pub derived_by : Field
-derived_by = field (codes "hash=") needed tags.HASHING_ALGORITHM Name as_parameter
+-- the algorithm that encrypts in a derivation: KMIP 1.2, 3.6
+abbrev pub cipher : Field
+cipher = field (codes "cipher=") optional tags.CRYPTOGRAPHIC_ALGORITHM Name as_parameter
+
+-- the initialization vector of a derivation: KMIP 1.0, 4.5
+abbrev pub derivation_iv : Field
+derivation_iv = field (codes "iv=") optional tags.INITIALIZATION_VECTOR Hex bare
 
 -- the data of a derivation
 abbrev pub derivation_data : Field

@@ -1,5 +1,5 @@
 -- The items that words give.
-use Rattle.std.specs.Prelude.{ℕ, ◌^◌, nat_lt, Bool, List, [], ◌∷◌, ◌++◌, codes, Option, Some, None, if◌then◌else◌, slice_get}
+use Rattle.std.specs.Prelude.{ℕ, ◌^◌, nat_lt, Bool, true, false, List, [], ◌∷◌, ◌++◌, codes, Option, Some, None, if◌then◌else◌, slice_get}
 use Rattle.std.specs.Option.{option_map, option_and_then}
 use Rattle.kmip_tags.specs.Tags as tags
 use Rattle.kmip_wire.specs.Tree.{Tree, scalar, structure, none, more, trees_of, text_string, enumeration}
@@ -24,11 +24,11 @@ abbrev pub value_tag : Form → ℕ → ℕ
 value_tag (as_attribute name) tag = tags.ATTRIBUTE_VALUE
 value_tag form tag = tag
 
--- the item of a field whose value is this item: itself, or round it Cryptographic Parameters (KMIP
--- 1.0, 3.6), an attribute, the attribute Cryptographic Domain Parameters (3.7) or Name (3.2)
+-- the item of a field whose value is this item: itself, or round it an attribute (KMIP 1.0, 2.1.1),
+-- the attribute Cryptographic Domain Parameters (3.7) or Name (3.2)
 abbrev pub formed : Form → Tree → Tree
 formed bare value = value
-formed as_parameter value = one_in tags.CRYPTOGRAPHIC_PARAMETERS value
+formed as_parameter value = value
 formed (as_attribute name) value = attribute_item name value
 formed in_domain value =
     attribute_item (codes "Cryptographic Domain Parameters") (one_in tags.ATTRIBUTE_VALUE value)
@@ -92,13 +92,30 @@ abbrev pub around : ℕ → List Tree → List Tree
 around tag [] = []
 around tag (first ∷ rest) = structure tag (trees_of (first ∷ rest)) ∷ []
 
--- the items of fields that stand together: in a structure where they have one, and one is given
+-- whether a field is one of Cryptographic Parameters
+abbrev pub is_parameter : Form → Bool
+is_parameter as_parameter = true
+is_parameter form = false
+
+-- the items of a field where it is one of Cryptographic Parameters, or where it is none
+abbrev pub items_where : Bool → Words → Field → Option (List Tree)
+items_where true given field = if is_parameter field.form then field_items given field else Some []
+items_where false given field = if is_parameter field.form then Some [] else field_items given field
+
+-- the items of fields that stand together: Cryptographic Parameters (KMIP 1.0, 3.6) of those of its
+-- fields that are given, where one is; then the others
+abbrev pub fields_items : Words → List Field → Option (List Tree)
+fields_items given fields =
+    both (option_map (around tags.CRYPTOGRAPHIC_PARAMETERS) (all_items (items_where true given) fields))
+    (all_items (items_where false given) fields)
+
+-- these items: in a structure where they have one, and one is given
 abbrev pub grouped : Option ℕ → Option (List Tree) → Option (List Tree)
 grouped None items = items
 grouped (Some tag) items = if nat_lt tag (2 ^ 24) then option_map (around tag) items else None
 
 abbrev pub part_items : Words → Part → Option (List Tree)
-part_items given part = grouped part.group (all_items (field_items given) part.fields)
+part_items given part = grouped part.group (fields_items given part.fields)
 
 -- what was added to items: these, where words gave them
 abbrev pub after : List Tree → Option (List Tree) → Option (List Tree)

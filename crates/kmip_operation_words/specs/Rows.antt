@@ -11,7 +11,7 @@ use Rattle.kmip_operation_words.specs.declared.rows.FieldRow.{FieldRow}
 use Rattle.kmip_operation_words.specs.declared.rows.PartRow.{PartRow}
 use Rattle.kmip_operation_words.specs.declared.rows.OperationRow.{OperationRow}
 
--- how the value of a field stands among the items: as an item; as an item alone in Cryptographic
+-- how the value of a field stands among the items: as an item; as an item in Cryptographic
 -- Parameters; as the value of an attribute; in the attribute Cryptographic Domain Parameters; as the
 -- attribute Name
 pub data Form : Type 0 where

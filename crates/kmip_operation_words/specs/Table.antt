@@ -4,7 +4,7 @@ use Rattle.kmip_tags.specs.Tags as tags
 use Rattle.kmip_enums.specs.declared.operation.Operation.TheVariants as operations
 use Rattle.kmip_operation_words.specs.declared.rows.Rest.TheVariants.{Options, Words}
 use Rattle.kmip_operation_words.specs.Rows.{Field, Part, part, Row, row}
-use Rattle.kmip_operation_words.specs.Fields.{algorithm_attribute, correlation, count, count_wanted, curve, curve_algorithm, curve_private_name, curve_public_name, data_alone, derivation_data, derived_by, hashed_by, id, ids, iterations, iv, key_algorithm, key_bits, key_name, key_usage, lease_wanted, length, length_needed, mac, method, name_given, object_data, offset, parameters, private_id, private_name, private_usage, public_name, public_usage, request, request_type, salt, seed, signature, symmetric_key, type, usage_attribute, usage_wanted}
+use Rattle.kmip_operation_words.specs.Fields.{algorithm_attribute, cipher, correlation, count, count_wanted, curve, curve_algorithm, curve_private_name, curve_public_name, data_alone, derivation_data, derivation_iv, hash, hashed_by, id, ids, iterations, iv, key_algorithm, key_bits, key_name, key_usage, lease_wanted, length, length_needed, mac, method, mode, name_given, object_data, offset, padding, parameters, private_id, private_name, private_usage, public_name, public_usage, request, request_type, salt, second_id, seed, signature, symmetric_key, type, usage_attribute, usage_wanted}
 
 -- fields that stand in the payload itself
 abbrev pub own : List Field → Part
@@ -20,7 +20,7 @@ object = own (id ∷ [])
 
 -- how the object is used: KMIP 1.2, 3.6
 abbrev pub used : Part
-used = within tags.CRYPTOGRAPHIC_PARAMETERS parameters
+used = own parameters
 
 -- the data, and where the cipher starts
 abbrev pub data_and_iv : Part
@@ -58,15 +58,14 @@ verify_row = row (codes "verify") operations.SignatureVerify 3 Options
 -- KMIP 1.2, 4.37
 abbrev pub hash_row : Row
 hash_row = row (codes "hash") operations.Hash 1 Options
-    (within tags.CRYPTOGRAPHIC_PARAMETERS (hashed_by ∷ [])
-    ∷ own (data_alone ∷ [])
-    ∷ [])
+    (own (hashed_by ∷ data_alone ∷ []) ∷ [])
 
 -- KMIP 1.0, 4.5
 abbrev pub derive_key_row : Row
 derive_key_row = row (codes "derive-key") operations.DeriveKey 2 Options
-    (own (type ∷ id ∷ method ∷ [])
-    ∷ within tags.DERIVATION_PARAMETERS (derived_by ∷ derivation_data ∷ salt ∷ iterations ∷ [])
+    (own (type ∷ id ∷ second_id ∷ method ∷ [])
+    ∷ within tags.DERIVATION_PARAMETERS
+    (mode ∷ padding ∷ hash ∷ cipher ∷ derivation_iv ∷ derivation_data ∷ salt ∷ iterations ∷ [])
     ∷ within tags.TEMPLATE_ATTRIBUTE (algorithm_attribute ∷ length_needed ∷ usage_attribute ∷ name_given ∷ [])
     ∷ [])
 

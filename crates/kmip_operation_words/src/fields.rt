@@ -11,6 +11,15 @@ pub const ID: FieldRow = FieldRow {
     form: Form::Item,
 };
 
+/// The identifier of a second object.
+pub const SECOND_ID: FieldRow = FieldRow {
+    name: "also=",
+    place: Place::Option,
+    tag: tags::UNIQUE_IDENTIFIER,
+    kind: Kind::Identifier,
+    form: Form::Item,
+};
+
 /// The identifiers of more objects.
 pub const IDS: FieldRow = FieldRow {
     name: "ID",
@@ -35,7 +44,7 @@ pub const MODE: FieldRow = FieldRow {
     place: Place::Option,
     tag: tags::BLOCK_CIPHER_MODE,
     kind: Kind::Name,
-    form: Form::Item,
+    form: Form::Parameter,
 };
 
 /// How data is padded: KMIP 1.0, 9.1.3.2.14.
@@ -44,7 +53,7 @@ pub const PADDING: FieldRow = FieldRow {
     place: Place::Option,
     tag: tags::PADDING_METHOD,
     kind: Kind::Name,
-    form: Form::Item,
+    form: Form::Parameter,
 };
 
 /// The hashing algorithm: KMIP 1.0, 9.1.3.2.15.
@@ -53,7 +62,7 @@ pub const HASH: FieldRow = FieldRow {
     place: Place::Option,
     tag: tags::HASHING_ALGORITHM,
     kind: Kind::Name,
-    form: Form::Item,
+    form: Form::Parameter,
 };
 
 /// What the key is for: KMIP 1.0, 9.1.3.2.16.
@@ -62,7 +71,7 @@ pub const ROLE: FieldRow = FieldRow {
     place: Place::Option,
     tag: tags::KEY_ROLE_TYPE,
     kind: Kind::Name,
-    form: Form::Item,
+    form: Form::Parameter,
 };
 
 /// The algorithm of a signature, with its hash: KMIP 1.2, 9.1.3.2.7.
@@ -71,7 +80,7 @@ pub const SIGNATURE_ALGORITHM: FieldRow = FieldRow {
     place: Place::Option,
     tag: tags::DIGITAL_SIGNATURE_ALGORITHM,
     kind: Kind::Name,
-    form: Form::Item,
+    form: Form::Parameter,
 };
 
 /// The cryptographic algorithm: KMIP 1.0, 9.1.3.2.12.
@@ -80,7 +89,7 @@ pub const ALGORITHM: FieldRow = FieldRow {
     place: Place::Option,
     tag: tags::CRYPTOGRAPHIC_ALGORITHM,
     kind: Kind::Name,
-    form: Form::Item,
+    form: Form::Parameter,
 };
 
 /// Whether the server makes the initialization vector.
@@ -89,7 +98,7 @@ pub const RANDOM_IV: FieldRow = FieldRow {
     place: Place::Option,
     tag: tags::RANDOM_IV,
     kind: Kind::Truth,
-    form: Form::Item,
+    form: Form::Parameter,
 };
 
 /// The length of the initialization vector, in bits.
@@ -98,7 +107,7 @@ pub const IV_LENGTH: FieldRow = FieldRow {
     place: Place::Option,
     tag: tags::IV_LENGTH,
     kind: Kind::Int,
-    form: Form::Item,
+    form: Form::Parameter,
 };
 
 /// The length of the authentication tag, in bytes.
@@ -107,7 +116,7 @@ pub const TAG_LENGTH: FieldRow = FieldRow {
     place: Place::Option,
     tag: tags::TAG_LENGTH,
     kind: Kind::Int,
-    form: Form::Item,
+    form: Form::Parameter,
 };
 
 /// The length of the fixed part of a counter, in bits.
@@ -116,7 +125,7 @@ pub const FIXED_FIELD_LENGTH: FieldRow = FieldRow {
     place: Place::Option,
     tag: tags::FIXED_FIELD_LENGTH,
     kind: Kind::Int,
-    form: Form::Item,
+    form: Form::Parameter,
 };
 
 /// The length of the invocation part of a counter, in bits.
@@ -125,7 +134,7 @@ pub const INVOCATION_FIELD_LENGTH: FieldRow = FieldRow {
     place: Place::Option,
     tag: tags::INVOCATION_FIELD_LENGTH,
     kind: Kind::Int,
-    form: Form::Item,
+    form: Form::Parameter,
 };
 
 /// The length of the counter, in bits.
@@ -134,7 +143,7 @@ pub const COUNTER_LENGTH: FieldRow = FieldRow {
     place: Place::Option,
     tag: tags::COUNTER_LENGTH,
     kind: Kind::Int,
-    form: Form::Item,
+    form: Form::Parameter,
 };
 
 /// The first value of the counter.
@@ -143,7 +152,7 @@ pub const INITIAL_COUNTER: FieldRow = FieldRow {
     place: Place::Option,
     tag: tags::INITIAL_COUNTER_VALUE,
     kind: Kind::Int,
-    form: Form::Item,
+    form: Form::Parameter,
 };
 
 /// The data that the object is used on.
@@ -188,7 +197,7 @@ pub const HASHED_BY: FieldRow = FieldRow {
     place: Place::Needed,
     tag: tags::HASHING_ALGORITHM,
     kind: Kind::Name,
-    form: Form::Item,
+    form: Form::Parameter,
 };
 
 /// The data, of no object.
@@ -227,13 +236,22 @@ pub const METHOD: FieldRow = FieldRow {
     form: Form::Item,
 };
 
-/// The hashing algorithm of a derivation, which is needed.
-pub const DERIVED_BY: FieldRow = FieldRow {
-    name: "hash=",
-    place: Place::Needed,
-    tag: tags::HASHING_ALGORITHM,
+/// The algorithm that encrypts in a derivation: KMIP 1.2, 3.6.
+pub const CIPHER: FieldRow = FieldRow {
+    name: "cipher=",
+    place: Place::Option,
+    tag: tags::CRYPTOGRAPHIC_ALGORITHM,
     kind: Kind::Name,
     form: Form::Parameter,
+};
+
+/// The initialization vector of a derivation: KMIP 1.0, 4.5.
+pub const DERIVATION_IV: FieldRow = FieldRow {
+    name: "iv=",
+    place: Place::Option,
+    tag: tags::INITIALIZATION_VECTOR,
+    kind: Kind::Hex,
+    form: Form::Item,
 };
 
 /// The data of a derivation.

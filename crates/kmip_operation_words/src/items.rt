@@ -59,8 +59,7 @@ fn formed(alloc: Global, form: Form, value: Tree) -> Result<Tree, OutOfMemory>
     ensures { IfOk result (λ tree. tree ≡ items.formed (form_view form) value) }
 {
     match form {
-        Form::Item => Ok(value),
-        Form::Parameter => one_in(alloc, Tag::of(CRYPTOGRAPHIC_PARAMETERS), value),
+        Form::Item | Form::Parameter => Ok(value),
         Form::Attribute(name) => attribute_item(alloc, name, value),
         Form::Domain => {
             let inner = one_in(alloc, Tag::of(ATTRIBUTE_VALUE), value)?;
@@ -166,25 +165,56 @@ pub fn push_field(
     }
 }
 
-/// Adds the items of fields.
-fn push_fields(
+/// Whether a field is one of Cryptographic Parameters.
+fn is_parameter(form: Form) -> bool
+    ensures { result ≡ items.is_parameter (form_view form) }
+{
+    match form {
+        Form::Parameter => true,
+        _ => false,
+    }
+}
+
+/// Adds the items of a field where it is one of Cryptographic Parameters, or where it is none.
+fn push_where(
     alloc: Global,
-    fields: &[FieldRow],
+    field: &FieldRow,
+    are_parameters: bool,
     words: &[Text],
     behind: &[Text],
     out: &mut Vec<Tree>,
 ) -> Result<bool, OutOfMemory>
     ensures { IfOk result (λ fits. items.added fits out.new.items ≡ items.after out.old.items
-        (items.all_items (items.field_items (record { all = words.now; behind = behind.now }))
+        (items.items_where are_parameters (record { all = words.now; behind = behind.now })
+        (field_view field.now))) }
+{
+    match (are_parameters, is_parameter(field.form)) {
+        (true, true) | (false, false) => push_field(alloc, field, words, behind, out),
+        _ => Ok(true),
+    }
+}
+
+/// Adds the items of those fields that are of Cryptographic Parameters, or of the others.
+fn push_fields(
+    alloc: Global,
+    fields: &[FieldRow],
+    are_parameters: bool,
+    words: &[Text],
+    behind: &[Text],
+    out: &mut Vec<Tree>,
+) -> Result<bool, OutOfMemory>
+    ensures { IfOk result (λ fits. items.added fits out.new.items ≡ items.after out.old.items
+        (items.all_items
+        (items.items_where are_parameters (record { all = words.now; behind = behind.now }))
         (map field_view fields.now))) }
 {
     match fields {
         [] => Ok(true),
         [first, rest @ ..] => {
-            if !push_field(alloc, first, words, behind, out)? {
+            if !push_where(alloc, first, are_parameters, words, behind, out)? {
                 return Ok(false);
             }
-            push_fields(alloc, rest, words, behind, out)
+            push_fields(alloc, rest, are_parameters, words, behind, out)
         }
     }
 }
@@ -200,6 +230,28 @@ fn push_around(tag: Tag, inner: Vec<Tree>, out: &mut Vec<Tree>) -> Result<(), Ou
     Ok(())
 }
 
+/// Adds the items of fields that stand together: Cryptographic Parameters of those of its fields
+/// that are given, where one is; then the others.
+#[tactic(auto, using(std::proofs::lemmas::List::append_assoc))]
+fn push_all_fields(
+    alloc: Global,
+    fields: &[FieldRow],
+    words: &[Text],
+    behind: &[Text],
+    out: &mut Vec<Tree>,
+) -> Result<bool, OutOfMemory>
+    ensures { IfOk result (λ fits. items.added fits out.new.items ≡ items.after out.old.items
+        (items.fields_items (record { all = words.now; behind = behind.now })
+        (map field_view fields.now))) }
+{
+    let mut parameters = Vec::new(alloc);
+    if !push_fields(alloc, fields, true, words, behind, &mut parameters)? {
+        return Ok(false);
+    }
+    push_around(Tag::of(CRYPTOGRAPHIC_PARAMETERS), parameters, out)?;
+    push_fields(alloc, fields, false, words, behind, out)
+}
+
 /// Adds the items of fields that stand together, in their structure where they have one.
 fn push_part(
     alloc: Global,
@@ -213,13 +265,13 @@ fn push_part(
         (part_view part.now))) }
 {
     let Some(group) = part.group else {
-        return push_fields(alloc, part.fields, words, behind, out);
+        return push_all_fields(alloc, part.fields, words, behind, out);
     };
     let Some(tag) = Tag::new(group) else {
         return Ok(false);
     };
     let mut inner = Vec::new(alloc);
-    if !push_fields(alloc, part.fields, words, behind, &mut inner)? {
+    if !push_all_fields(alloc, part.fields, words, behind, &mut inner)? {
         return Ok(false);
     }
     push_around(tag, inner, out)?;

@@ -31,7 +31,8 @@ pub enum Kind {
 pub enum Form {
     /// As an item with the field's tag.
     Item,
-    /// As such an item, alone in Cryptographic Parameters: KMIP 1.0, 3.6.
+    /// As such an item in Cryptographic Parameters (KMIP 1.0, 3.6), one structure for all such
+    /// fields of a part, before its other fields.
     Parameter,
     /// As the value of the attribute with this name: KMIP 1.0, 2.1.1.
     Attribute(&'static str),

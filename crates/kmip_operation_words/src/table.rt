@@ -4,12 +4,12 @@ ghost use Rattle.kmip_operation_words.specs.Rows.{row_view};
 ghost use Rattle.kmip_operation_words.specs.Table.{calls};
 
 use crate::fields::{
-    ALGORITHM_ATTRIBUTE, CORRELATION, COUNT, COUNT_WANTED, CURVE, CURVE_ALGORITHM,
-    CURVE_PRIVATE_NAME, CURVE_PUBLIC_NAME, DATA_ALONE, DERIVATION_DATA, DERIVED_BY, HASHED_BY, ID,
-    IDS, ITERATIONS, IV, KEY_ALGORITHM, KEY_BITS, KEY_NAME, KEY_USAGE, LEASE_WANTED, LENGTH,
-    LENGTH_NEEDED, MAC, METHOD, NAME_GIVEN, OBJECT_DATA, OFFSET, PARAMETERS, PRIVATE_ID,
-    PRIVATE_NAME, PRIVATE_USAGE, PUBLIC_NAME, PUBLIC_USAGE, REQUEST, REQUEST_TYPE, SALT, SEED,
-    SIGNATURE, SYMMETRIC_KEY, TYPE, USAGE_ATTRIBUTE, USAGE_WANTED,
+    ALGORITHM_ATTRIBUTE, CIPHER, CORRELATION, COUNT, COUNT_WANTED, CURVE, CURVE_ALGORITHM,
+    CURVE_PRIVATE_NAME, CURVE_PUBLIC_NAME, DATA_ALONE, DERIVATION_DATA, DERIVATION_IV, HASH,
+    HASHED_BY, ID, IDS, ITERATIONS, IV, KEY_ALGORITHM, KEY_BITS, KEY_NAME, KEY_USAGE, LEASE_WANTED,
+    LENGTH, LENGTH_NEEDED, MAC, METHOD, MODE, NAME_GIVEN, OBJECT_DATA, OFFSET, PADDING, PARAMETERS,
+    PRIVATE_ID, PRIVATE_NAME, PRIVATE_USAGE, PUBLIC_NAME, PUBLIC_USAGE, REQUEST, REQUEST_TYPE,
+    SALT, SECOND_ID, SEED, SIGNATURE, SYMMETRIC_KEY, TYPE, USAGE_ATTRIBUTE, USAGE_WANTED,
 };
 use crate::rows::{OperationRow, PartRow, Rest};
 use kmip_enums::Operation;
@@ -23,7 +23,7 @@ const OBJECT: PartRow = PartRow {
 
 /// How the object is used: KMIP 1.2, 3.6.
 const USED: PartRow = PartRow {
-    group: Some(tags::CRYPTOGRAPHIC_PARAMETERS),
+    group: None,
     fields: PARAMETERS,
 };
 
@@ -107,16 +107,10 @@ const CALLS: &[OperationRow] = &[
         operation: Operation::Hash,
         words: 1,
         rest: Rest::Options,
-        parts: &[
-            PartRow {
-                group: Some(tags::CRYPTOGRAPHIC_PARAMETERS),
-                fields: &[HASHED_BY],
-            },
-            PartRow {
-                group: None,
-                fields: &[DATA_ALONE],
-            },
-        ],
+        parts: &[PartRow {
+            group: None,
+            fields: &[HASHED_BY, DATA_ALONE],
+        }],
         help: "the hash of the data",
     },
     OperationRow {
@@ -127,11 +121,20 @@ const CALLS: &[OperationRow] = &[
         parts: &[
             PartRow {
                 group: None,
-                fields: &[TYPE, ID, METHOD],
+                fields: &[TYPE, ID, SECOND_ID, METHOD],
             },
             PartRow {
                 group: Some(tags::DERIVATION_PARAMETERS),
-                fields: &[DERIVED_BY, DERIVATION_DATA, SALT, ITERATIONS],
+                fields: &[
+                    MODE,
+                    PADDING,
+                    HASH,
+                    CIPHER,
+                    DERIVATION_IV,
+                    DERIVATION_DATA,
+                    SALT,
+                    ITERATIONS,
+                ],
             },
             PartRow {
                 group: Some(tags::TEMPLATE_ATTRIBUTE),
@@ -143,7 +146,7 @@ const CALLS: &[OperationRow] = &[
                 ],
             },
         ],
-        help: "a new key or secret, derived from an object by PBKDF2, HASH or HMAC",
+        help: "a new key or secret, derived from one object or two by PBKDF2, HASH, HMAC or ENCRYPT",
     },
     OperationRow {
         name: "rekey",

@@ -81,6 +81,36 @@ const NEW_OBJECTS: &[Row] = &[
         payload: "79{57 e7,94 \"3\",31 e3,32{2B{38 e8},30 xAB},91{08{0A \"Cryptographic Length\",0B i128}}}",
     },
     Row {
+        words: "derive-key 3 ENCRYPT length=256 algorithm=AES iv=000102030405060708090A0B0C0D0E0F data=00FF cipher=AES padding=PKCS5 mode=CBC",
+        operation: Operation::DeriveKey,
+        payload: "79{57 e2,94 \"3\",31 e4,32{2B{11 e1,5F e3,28 e3},3A x000102030405060708090A0B0C0D0E0F,30 x00FF},91{08{0A \"Cryptographic Algorithm\",0B e3},08{0A \"Cryptographic Length\",0B i256}}}",
+    },
+    Row {
+        words: "derive-key 3 ENCRYPT length=64 iterations=2 salt=01 iv=- cipher=DES3 hash=MD5 padding=None mode=ECB type=SecretData data=-",
+        operation: Operation::DeriveKey,
+        payload: "79{57 e7,94 \"3\",31 e4,32{2B{11 e2,5F e1,38 e3,28 e2},3A x,30 x,84 x01,3C i2},91{08{0A \"Cryptographic Length\",0B i64}}}",
+    },
+    Row {
+        words: "derive-key 3 HMAC also=k%204 hash=SHA_256 length=128",
+        operation: Operation::DeriveKey,
+        payload: "79{57 e2,94 \"3\",94 \"k 4\",31 e3,32{2B{38 e6}},91{08{0A \"Cryptographic Length\",0B i128}}}",
+    },
+    Row {
+        words: "derive-key 3 HASH length=256 hash=SHA256",
+        operation: Operation::DeriveKey,
+        payload: "79{57 e2,94 \"3\",31 e2,32{2B{38 e6}},91{08{0A \"Cryptographic Length\",0B i256}}}",
+    },
+    Row {
+        words: "derive-key 3 HASH length=256 data=AB",
+        operation: Operation::DeriveKey,
+        payload: "79{57 e2,94 \"3\",31 e2,32{30 xAB},91{08{0A \"Cryptographic Length\",0B i256}}}",
+    },
+    Row {
+        words: "derive-key 3 HASH also=3 length=256",
+        operation: Operation::DeriveKey,
+        payload: "79{57 e2,94 \"3\",94 \"3\",31 e2,91{08{0A \"Cryptographic Length\",0B i256}}}",
+    },
+    Row {
         words: "rekey 4",
         operation: Operation::Rekey,
         payload: "79{94 \"4\"}",

@@ -27,8 +27,14 @@ const NO_CALLS: &[&str] = &[
     "hash 00",
     "hash 00 hash=SHA_1 mode=CBC",
     "derive-key 3 PBKDF2 hash=SHA256",
-    "derive-key 3 PBKDF2 length=128",
+    "derive-key 3 PBKDF2 hash=SHA256 length=128 mode=cbc",
     "derive-key 3 PBKDF3 length=128 hash=SHA256",
+    "derive-key 3 ENCRYPT length=128 iv=0",
+    "derive-key 3 ENCRYPT length=128 cipher=AES cipher=AES",
+    "derive-key 3 ENCRYPT length=128 tag-length=16",
+    "derive-key 3 HMAC length=128 also=-",
+    "derive-key 3 HMAC length=128 also=4 also=5",
+    "derive-key 3 4 HMAC length=128",
     "rekey -",
     "rekey-pair -",
     "rekey 5 offset=-1",
@@ -76,6 +82,10 @@ const SENTENCES: &[Sentence] = &[
     Sentence {
         words: "hash 00",
         refusal: "hash: hash= has to be one of MD2, MD4, MD5, SHA_1, SHA_224, SHA_256, SHA_384, SHA_512, RIPEMD_160, Tiger, Whirlpool, SHA_512_224, SHA_512_256; its form is: hash DATA hash=NAME",
+    },
+    Sentence {
+        words: "derive-key 3 ENCRYPT also= length=128",
+        refusal: "derive-key: also= has to be a text that is not empty; its form is: derive-key ID METHOD [type=NAME] [also=ID] [mode=NAME] [padding=NAME] [hash=NAME] [cipher=NAME] [iv=HEX] [data=HEX] [salt=HEX] [iterations=N] [algorithm=NAME] length=N [usage=USES] [name=TEXT]",
     },
     Sentence {
         words: "archive 5 6",

@@ -18,6 +18,14 @@ same 'an Encrypt' "$id,$parameters$mode,$padding]},$data,{\"tag\":\"IVCounterNon
     Encrypt encrypt 5 68656C6C6F padding=PKCS5 mode=CBC iv=00112233
 same 'a Hash' "$parameters{\"tag\":\"HashingAlgorithm\",\"type\":\"Enumeration\",\"value\":\"SHA_256\"}]},$data" \
     Hash hash 68656C6C6F hash=SHA256
+object='{"tag":"ObjectType","type":"Enumeration","value":"SymmetricKey"}'
+method='{"tag":"DerivationMethod","type":"Enumeration","value":"ENCRYPT"}'
+iv='{"tag":"InitializationVector","type":"ByteString","value":"00112233"}'
+length='{"tag":"AttributeName","type":"TextString","value":"Cryptographic Length"},{"tag":"AttributeValue","type":"Integer","value":128}'
+same 'a Derive Key of two objects' \
+    "$object,$id,${id/5/6},$method,{\"tag\":\"DerivationParameters\",\"value\":[$parameters$mode,$padding]},$iv]},
+    {\"tag\":\"TemplateAttribute\",\"value\":[{\"tag\":\"Attribute\",\"value\":[$length]}]}" \
+    DeriveKey derive-key 5 ENCRYPT also=6 length=128 iv=00112233 padding=PKCS5 mode=CBC
 same 'an Archive' "$id" Archive archive 5
 printf hello >data.bin
 same 'bytes of a file' "$id,$data" Encrypt encrypt 5 @data.bin
