@@ -68,7 +68,7 @@ _kmip_options+=(
     [mac-verify]='mode= padding= hash= role= signature-algorithm= algorithm= random-iv= iv-length= tag-length= fixed-field-length= invocation-field-length= counter-length= initial-counter='
     [verify]='mode= padding= hash= role= signature-algorithm= algorithm= random-iv= iv-length= tag-length= fixed-field-length= invocation-field-length= counter-length= initial-counter='
     [hash]='hash='
-    [derive-key]='type= hash= data= salt= iterations= algorithm= length= usage= name='
+    [derive-key]='type= also= mode= padding= hash= cipher= iv= data= salt= iterations= algorithm= length= usage= name='
     [rekey]='offset='
     [rekey-pair]='offset='
     [certify]='request-type= request= name='

@@ -129,7 +129,8 @@ kmip_is_of_table() { # CALL
                                                      random-iv iv-length tag-length fixed-field-length \
                                                      invocation-field-length counter-length initial-counter " ;;
     hash) KMIP_OPTIONS=" hash " ;;
-    derive-key) KMIP_PLAIN=2 KMIP_OPTIONS=" type hash data salt iterations algorithm length usage name " ;;
+    derive-key) KMIP_PLAIN=2 KMIP_OPTIONS=" type also mode padding hash cipher iv data salt iterations algorithm \
+                                            length usage name " ;;
     rekey | rekey-pair) KMIP_OPTIONS=" offset " ;;
     certify) KMIP_OPTIONS=" request-type request name " ;;
     recertify) KMIP_OPTIONS=" request-type request offset name " ;;

@@ -1,5 +1,5 @@
 //! What `--help`, `--grammar` and `--operations` print, from the tables of calls.
-use kmip_operation_words::{operation_calls, push_operation_form};
+use kmip_operation_words::{operation_calls, operation_help, push_operation_form};
 use kmip_shape::ShowItem;
 use kmip_wire::{List, OutOfMemory, Text};
 use kmip_words::{
@@ -169,7 +169,7 @@ pub fn operations_text(alloc: Global) -> Result<Text, OutOfMemory> {
     for row in operation_calls() {
         push_operation_form(row, &mut text)?;
         text.push_str("\n    ")?;
-        text.push_str(row.help)?;
+        text.push_str(operation_help(row.name))?;
         text.push_str("\n")?;
     }
     Ok(text)

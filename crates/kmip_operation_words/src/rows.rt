@@ -106,6 +106,4 @@ pub struct OperationRow {
     pub rest: Rest,
     /// The payload, in KMIP's order.
     pub parts: &'static [PartRow],
-    /// What it asks for.
-    pub help: &'static str,
 }

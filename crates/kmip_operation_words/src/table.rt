@@ -47,7 +47,6 @@ const CALLS: &[OperationRow] = &[
         words: 2,
         rest: Rest::Options,
         parts: &[OBJECT, USED, DATA_AND_IV],
-        help: "the data, encrypted with a key",
     },
     OperationRow {
         name: "decrypt",
@@ -55,7 +54,6 @@ const CALLS: &[OperationRow] = &[
         words: 2,
         rest: Rest::Options,
         parts: &[OBJECT, USED, DATA_AND_IV],
-        help: "the data, decrypted with a key",
     },
     OperationRow {
         name: "mac",
@@ -70,7 +68,6 @@ const CALLS: &[OperationRow] = &[
                 fields: &[OBJECT_DATA],
             },
         ],
-        help: "the message authentication code of the data, by a key",
     },
     OperationRow {
         name: "mac-verify",
@@ -85,7 +82,6 @@ const CALLS: &[OperationRow] = &[
                 fields: &[OBJECT_DATA, MAC],
             },
         ],
-        help: "whether this is the message authentication code of the data",
     },
     OperationRow {
         name: "verify",
@@ -100,7 +96,6 @@ const CALLS: &[OperationRow] = &[
                 fields: &[OBJECT_DATA, SIGNATURE],
             },
         ],
-        help: "whether this is a signature of the data, by the private key of this public one",
     },
     OperationRow {
         name: "hash",
@@ -111,7 +106,6 @@ const CALLS: &[OperationRow] = &[
             group: None,
             fields: &[HASHED_BY, DATA_ALONE],
         }],
-        help: "the hash of the data",
     },
     OperationRow {
         name: "derive-key",
@@ -146,7 +140,6 @@ const CALLS: &[OperationRow] = &[
                 ],
             },
         ],
-        help: "a new key or secret, derived from one object or two by PBKDF2, HASH, HMAC or ENCRYPT",
     },
     OperationRow {
         name: "rekey",
@@ -157,7 +150,6 @@ const CALLS: &[OperationRow] = &[
             group: None,
             fields: &[ID, OFFSET],
         }],
-        help: "a new symmetric key in the place of this one",
     },
     OperationRow {
         name: "rekey-pair",
@@ -168,7 +160,6 @@ const CALLS: &[OperationRow] = &[
             group: None,
             fields: &[PRIVATE_ID, OFFSET],
         }],
-        help: "a new pair of keys in the place of the pair of this private key",
     },
     OperationRow {
         name: "certify",
@@ -182,7 +173,6 @@ const CALLS: &[OperationRow] = &[
             },
             NAMED,
         ],
-        help: "a certificate for a public key",
     },
     OperationRow {
         name: "recertify",
@@ -196,7 +186,6 @@ const CALLS: &[OperationRow] = &[
             },
             NAMED,
         ],
-        help: "a new certificate in the place of this one",
     },
     OperationRow {
         name: "create-ec",
@@ -217,7 +206,6 @@ const CALLS: &[OperationRow] = &[
                 fields: &[CURVE_PUBLIC_NAME, PUBLIC_USAGE],
             },
         ],
-        help: "a new pair of keys on a curve, with these names",
     },
     OperationRow {
         name: "create-pair",
@@ -238,7 +226,6 @@ const CALLS: &[OperationRow] = &[
                 fields: &[PUBLIC_NAME, PUBLIC_USAGE],
             },
         ],
-        help: "a new pair of keys of any algorithm, with these names",
     },
     OperationRow {
         name: "create-key",
@@ -255,7 +242,6 @@ const CALLS: &[OperationRow] = &[
                 fields: &[KEY_ALGORITHM, KEY_BITS, KEY_NAME, KEY_USAGE],
             },
         ],
-        help: "a new symmetric key of any algorithm",
     },
     OperationRow {
         name: "check",
@@ -266,7 +252,6 @@ const CALLS: &[OperationRow] = &[
             group: None,
             fields: &[ID, COUNT_WANTED, USAGE_WANTED, LEASE_WANTED],
         }],
-        help: "whether an object may be used so",
     },
     OperationRow {
         name: "attribute-list",
@@ -274,7 +259,6 @@ const CALLS: &[OperationRow] = &[
         words: 1,
         rest: Rest::Options,
         parts: &[OBJECT],
-        help: "the names of the attributes that an object has",
     },
     OperationRow {
         name: "lease",
@@ -282,7 +266,6 @@ const CALLS: &[OperationRow] = &[
         words: 1,
         rest: Rest::Options,
         parts: &[OBJECT],
-        help: "a lease of an object: for how long it may be used",
     },
     OperationRow {
         name: "usage-allocation",
@@ -293,7 +276,6 @@ const CALLS: &[OperationRow] = &[
             group: None,
             fields: &[ID, COUNT],
         }],
-        help: "so much of the use that is left of an object",
     },
     OperationRow {
         name: "archive",
@@ -301,7 +283,6 @@ const CALLS: &[OperationRow] = &[
         words: 1,
         rest: Rest::Options,
         parts: &[OBJECT],
-        help: "the object may be stored off line",
     },
     OperationRow {
         name: "recover",
@@ -309,7 +290,6 @@ const CALLS: &[OperationRow] = &[
         words: 1,
         rest: Rest::Options,
         parts: &[OBJECT],
-        help: "the object is to be on line again",
     },
     OperationRow {
         name: "validate",
@@ -320,7 +300,6 @@ const CALLS: &[OperationRow] = &[
             group: None,
             fields: &[ID, IDS],
         }],
-        help: "whether these certificates are a valid chain",
     },
     OperationRow {
         name: "cancel",
@@ -331,7 +310,6 @@ const CALLS: &[OperationRow] = &[
             group: None,
             fields: &[CORRELATION],
         }],
-        help: "the operation that has not ended is stopped",
     },
     OperationRow {
         name: "poll",
@@ -342,7 +320,6 @@ const CALLS: &[OperationRow] = &[
             group: None,
             fields: &[CORRELATION],
         }],
-        help: "how far the operation is that has not ended",
     },
     OperationRow {
         name: "rng-seed",
@@ -353,7 +330,6 @@ const CALLS: &[OperationRow] = &[
             group: None,
             fields: &[SEED],
         }],
-        help: "the random numbers get these bytes",
     },
 ];
 

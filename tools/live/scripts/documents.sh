@@ -58,7 +58,7 @@ completes 'kmip sign 2 00 ha' hash= && completes 'kmip sign 2 00 hash=SHA2' SHA2
     completes 'kmip locate where state=Des' Destroyed DestroyedCompromised && completes 'kmip register p' public private &&
     completes 'kmip attribute-modify 1 name=a i' index= && completes 'kmip query h'
 verdict 'completion of options and of their values'
-completes 'kmip derive-key 5 HMAC sa' salt= && completes 'kmip derive-key 5 HMAC salt=00 length=8 i' iterations= &&
+completes 'kmip derive-key 5 HMAC sa' salt= && completes 'kmip derive-key 5 HMAC salt=00 length=8 i' iv= iterations= &&
     completes 'kmip check 5 usage=Sign,Ver' Sign,Verify && completes 'kmip encrypt 5 00 random-iv=t' true &&
     completes 'kmip mac-verify 5 00 h' && completes 'kmip mac-verify 5 00 00 h' hash= && completes 'kmip validate 5 6 h' &&
     completes 'kmip_call user=a rekey 5 ' offset=
