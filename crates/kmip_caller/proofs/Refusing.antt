@@ -9,7 +9,7 @@ use Rattle.kmip_words.proofs.JsonLines.{error_line_by}
 use Rattle.kmip_operations.specs.Calls.{operation_named, version_written}
 use Rattle.kmip_caller.specs.TreeWords.{TreeText, an_operation, a_message, tree_words, item_id}
 use Rattle.kmip_caller.specs.declared.command.Order.{Order}
-use Rattle.kmip_caller.specs.declared.status.Status.TheVariants.{NoCall, OutOfMemory}
+use Rattle.kmip_caller.specs.declared.program.Status.TheVariants.{NoCall, OutOfMemory}
 use Rattle.kmip_words.specs.Complaints.{refusal as words_refusal}
 use Rattle.kmip_words.specs.Options.{Given}
 use Rattle.kmip_operation_words.specs.Calls.{row_in}

@@ -7,8 +7,8 @@ use Rattle.kmip_caller.specs.Record.{words_kept, record_with}
 use Rattle.kmip_caller.specs.Asked.{AsksFor, AsksForNone}
 use Rattle.kmip_caller.specs.Program.{Makes, Streams, streams, Refuses, Reports, Runs}
 use Rattle.kmip_caller.specs.declared.command.Order.{Order}
-use Rattle.kmip_caller.specs.declared.status.Status.{Status}
-use Rattle.kmip_caller.specs.declared.status.Status.TheVariants.{OutOfMemory}
+use Rattle.kmip_caller.specs.declared.program.Status.{Status}
+use Rattle.kmip_caller.specs.declared.program.Status.TheVariants.{OutOfMemory}
 use Rattle.kmip_caller.proofs.Asked.{asked_once}
 use Rattle.kmip_caller.proofs.Refusing.{nothing_written}
 

@@ -9,8 +9,8 @@ use Rattle.kmip_caller.specs.Refusal.{IsRefusalWritten}
 use Rattle.kmip_caller.specs.Exchange.{Exchange, Carried, CarriedPart}
 use Rattle.kmip_caller.specs.Asked.{AsksFor, AsksForNone}
 use Rattle.kmip_caller.specs.declared.command.Order.{Order}
-use Rattle.kmip_caller.specs.declared.status.Status.{Status}
-use Rattle.kmip_caller.specs.declared.status.Status.TheVariants.{Ended, NoCall, NotWritten, OutOfMemory}
+use Rattle.kmip_caller.specs.declared.program.Status.{Status}
+use Rattle.kmip_caller.specs.declared.program.Status.TheVariants.{Ended, NoCall, NotWritten, OutOfMemory}
 
 -- the exit status
 abbrev pub code_of : Status → ℕ

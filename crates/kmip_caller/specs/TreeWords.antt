@@ -3,8 +3,8 @@ use Rattle.std.specs.Prelude.{ℕ, ◌==◌, List, [], ◌∷◌, length, Option
 use Rattle.std.specs.Option.{option_map}
 use Rattle.kmip_words.specs.Options.{Given, option_given}
 use Rattle.kmip_words.specs.Values.{bytes_of}
-use Rattle.kmip_caller.specs.declared.tree_words.TreeWords.{TreeWords}
-use Rattle.kmip_caller.specs.declared.tree_words.TreeWords.TheVariants.{Operation, Message}
+use Rattle.kmip_caller.specs.declared.words.TreeWords.{TreeWords}
+use Rattle.kmip_caller.specs.declared.words.TreeWords.TheVariants.{Operation, Message}
 
 pub data TreeText : Type 0 where
   an_operation : (name version : List ℕ) → (hex : Option (List ℕ)) → (payload : List ℕ) → TreeText

@@ -11,23 +11,18 @@
 
 mod command;
 mod exchange;
-mod file_words;
 mod help;
 mod last_error;
 mod program;
 mod record;
 mod refusal;
 mod requested;
-mod status;
-mod table_words;
-mod tree_words;
-mod wire;
+mod words;
 
 pub use command::{Command, Order, command_of};
-pub use file_words::{file_in, with_contents};
 pub use help::{grammar_json, help_text, operations_text};
 pub use last_error::{LastError, Watched};
-pub use program::run;
+pub use program::{Status, run};
 pub use record::records_read_back;
 pub use refusal::{CLOSED_STREAM, NO_FILE, NOT_UTF8, WRONG_LIMIT, refusals_are_json, refuse};
-pub use status::Status;
+pub use words::{file_in, with_contents};

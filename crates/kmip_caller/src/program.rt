@@ -1,12 +1,12 @@
-//! The program.
-ghost use Rattle.std.specs.Prelude.{◌≡◌, ◌++◌, ◌⊎◌, option_map, Some, None};
-ghost use Rattle.std.specs.Prelude.{IfOk, OnOk, OnErr, IsErrOf, IsTrue, MatchOption};
+//! The program, and how a run of it ends.
+ghost use Rattle.std.specs.Prelude.{◌≡◌, ◌++◌, ◌⊎◌, option_map, Some, None, IfOk, OnOk, OnErr};
+ghost use Rattle.std.specs.Prelude.{IsErrOf, IsTrue, MatchOption};
+ghost use Rattle.kmip_caller.specs.Program.{code_of, is_ended, Makes, streams, Runs};
 ghost use Rattle.kmip_link.specs.State.{FaultCountRose};
 ghost use Rattle.kmip_words.specs.Streams.{WrotePart};
 ghost use Rattle.kmip_caller.specs.Exchange.{Exchange as TheExchange, CarriedPart};
 ghost use Rattle.kmip_caller.specs.Record.{words_kept, record_with};
 ghost use Rattle.kmip_caller.specs.Asked.{AsksFor, AsksForNone, exchange_of};
-ghost use Rattle.kmip_caller.specs.Program.{is_ended, Makes, streams, Runs};
 
 use crate::command::Order;
 use crate::exchange::{CallEnd, exchange};
@@ -14,11 +14,46 @@ use crate::last_error::LastError;
 use crate::record::{recorded_words, write_record};
 use crate::refusal::refuse_words;
 use crate::requested::{Requested, request_for, without_credential};
-use crate::status::Status;
 use kmip_link::{LinkError, Sink, Source};
 use kmip_wire::{List, OutOfMemory, Text};
-use kmip_words::write_out;
+use kmip_words::{Ending, write_out};
 use std::alloc::Global;
+
+/// How a run of the program ended.
+#[derive(Clone, Copy, Debug, PartialEq, Eq)]
+pub enum Status {
+    /// The call was made, and its record and its answer were written.
+    Ended(Ending),
+    /// The words are no call: nothing was sent, read or recorded.
+    NoCall,
+    /// The record or the answer could not be written; the exchange was made.
+    NotWritten,
+    /// Memory ran out, and the request may have been sent: close the connection.
+    OutOfMemory,
+}
+
+impl Status {
+    /// The exit status of the program.
+    ///
+    /// - 0: the call returned a payload, or that it was done.
+    /// - 1: it returned an error, and the connection is good for the next call.
+    /// - 2: no call was made.
+    /// - 3: the connection failed or ended, or gave bytes that are no message: close it.
+    /// - 4: the record or the answer could not be written.
+    /// - 5: memory ran out.
+    pub fn code(self) -> u8
+        ensures { result ≡ code_of self }
+    {
+        match self {
+            Status::Ended(Ending::Answered) => 0,
+            Status::Ended(Ending::Refused) => 1,
+            Status::NoCall => 2,
+            Status::Ended(Ending::Lost) => 3,
+            Status::NotWritten => 4,
+            Status::OutOfMemory => 5,
+        }
+    }
+}
 
 /// The words that are recorded of what an order asks for; `None` where nothing is.
 fn words_kept(

@@ -13,9 +13,8 @@ ghost use Rattle.kmip_caller.specs.declared.command.Order.{Order as TheOrder};
 ghost use Rattle.kmip_words.specs.JsonLines.{IsGrammarLine};
 
 use crate::command::Order;
-use crate::status::Status;
-use crate::table_words::{is_of_table, with_id};
-use crate::tree_words::{TreeWords, item_id, tree_words};
+use crate::program::Status;
+use crate::words::{TreeWords, is_of_table, item_id, tree_words, with_id};
 use kmip_link::{LinkError, Sink};
 use kmip_operation_words::why_no_call;
 use kmip_operations::{message_refusal, operation_named, payload_refusal, version_written};

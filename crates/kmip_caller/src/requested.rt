@@ -9,8 +9,7 @@ ghost use Rattle.kmip_caller.specs.Asked.{exchange_of, AsksForNone, Requests};
 ghost use Rattle.kmip_caller.specs.declared.requested.Asked.TheVariants.{Typed};
 
 use crate::command::Order;
-use crate::table_words::with_id;
-use crate::tree_words::{TreeWords, item_id, tree_words};
+use crate::words::{TreeWords, item_id, tree_words, with_id};
 use kmip_operation_words::table_call;
 use kmip_operations::{
     OperationCall, PayloadForm, message_of, message_request, operation_call, operation_request,

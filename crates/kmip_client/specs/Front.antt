@@ -1,5 +1,5 @@
 -- What the code found at the front of bytes, as contracts see it.
-use Rattle.kmip_client.specs.declared.front.Front.{Front}
+use Rattle.kmip_client.specs.declared.reading.Front.{Front}
 use Rattle.kmip_client.specs.Message.{Message}
 
 abbrev pub message_seen : Front → Message

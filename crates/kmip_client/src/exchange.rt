@@ -16,9 +16,8 @@ ghost use Rattle.kmip_client.specs.declared.error.Error.TheVariants.{OutOfMemory
 
 use crate::call_request::{AnswersTo, CallRequest};
 use crate::error::Error;
-use crate::front::Front;
 use crate::message::{MessageStop, read_message};
-use crate::reading::answer;
+use crate::reading::{Front, answer};
 use crate::transfer::write_all;
 use kmip_link::{Link, LinkError};
 use kmip_request::Authentication;

@@ -27,7 +27,6 @@ mod check;
 mod client;
 mod error;
 mod exchange;
-mod front;
 mod helpers;
 mod identified;
 mod laws;

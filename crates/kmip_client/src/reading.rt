@@ -1,9 +1,9 @@
 //! What bytes answer, with no link: for callers who carry the bytes themselves.
-ghost use Rattle.std.specs.Prelude.{◌≡◌, Err, IfOk, option_map, true};
-ghost use Rattle.kmip_response.specs.Values.{response_payload_val};
-ghost use Rattle.kmip_client.specs.Client.{IsOfOperation};
+ghost use Rattle.std.specs.Prelude.{◌≡◌, length, Err, IfOk, option_map, true};
 ghost use Rattle.kmip_client.specs.Front.{message_seen};
 ghost use Rattle.kmip_client.specs.Message.{message_at, taken_for};
+ghost use Rattle.kmip_response.specs.Values.{response_payload_val};
+ghost use Rattle.kmip_client.specs.Client.{IsOfOperation};
 ghost use Rattle.kmip_client.specs.Outcome.{Gives, answer_by, answer_of, answer_with_payload};
 ghost use Rattle.kmip_client.specs.Outcome.{refused_text, seen_by};
 ghost use Rattle.kmip_client.specs.Untyped.{identified_answer};
@@ -12,14 +12,55 @@ ghost use Rattle.kmip_client.specs.declared.error.Error.TheVariants.{Deserialize
 
 use crate::call_request::{ReadsAnswer, TypedAnswers};
 use crate::error::Error;
-use crate::front::{Front, front_of, taken_for};
 use crate::operation::OperationAnswers;
 use crate::whole_message::WholeAnswers;
 use kmip_enums::Operation;
 use kmip_response::ResponsePayload;
-use kmip_wire::{Config, HeadError, Text, Tree};
+use kmip_wire::{Config, HeadError, Text, Tree, head};
 use std::alloc::Global;
 use std::marker::PhantomData;
+
+/// What stands at the front of bytes: KMIP 1.0, 9.1.1.
+#[derive(Clone, Copy)]
+pub enum Front<'a> {
+    /// The bytes end within the head or the contents.
+    Ended,
+    /// The head is not that of a structure, or announces more than the limit.
+    Refused(HeadError),
+    /// A message: a head and the contents that it says.
+    Whole(&'a [u8]),
+}
+
+/// What stands at the front of these bytes.
+pub fn front_of<'a>(bytes: &'a [u8], config: &Config) -> Front<'a>
+    ensures { message_seen result ≡ message_at bytes.now config.now.max_bytes }
+{
+    let Some(first) = bytes.first_chunk::<8>() else {
+        return Front::Ended;
+    };
+    match head(first, config) {
+        Ok(len) => {
+            let size = len as usize + 8;
+            if bytes.len() < size {
+                Front::Ended
+            } else {
+                Front::Whole(&bytes[..size])
+            }
+        }
+        Err(error) => Front::Refused(error),
+    }
+}
+
+/// How many of the bytes it is, or was found by.
+pub fn taken_for(bytes: &[u8], front: &Front) -> usize
+    ensures { result ≡ taken_for bytes.now (message_seen front.now) }
+{
+    match front {
+        Front::Ended => bytes.len(),
+        Front::Refused(_) => 8,
+        Front::Whole(message) => message.len(),
+    }
+}
 
 /// What bytes answer to a request, and how many of them say so.
 #[derive(Drop)]

@@ -10,10 +10,9 @@ ghost use Rattle.kmip_words.specs.Exchange.{texts_in_style, request_in_style, va
 ghost use Rattle.kmip_words.specs.Exchange.{step_in, json_line, Answers, Shows};
 ghost use Rattle.kmip_words.specs.JsonLines.{IsGrammarLine};
 
-use crate::call::Call;
+use crate::call::{Call, request_for};
 use crate::ending::Ending;
 use crate::laws::lines_are_json;
-use crate::requests::request_for;
 use crate::show::{done_line, push_pair, push_payload, show_error};
 use kmip_client::{Client, Error};
 use kmip_link::MemoryLink;

@@ -1,22 +1,30 @@
-//! Which call words ask for: words of a line of a script, and words that are typed.
+//! Which call words ask for: words of a line of a script, and words that are typed. And the request
+//! of a call.
 ghost use Rattle.std.specs.Prelude.{◌≡◌, Some, map, option_map, IfOk};
 ghost use Rattle.kmip_request_words.specs.Values.{int_of, bytes_of, word_text};
 ghost use Rattle.kmip_words.specs.Calls.{typed_of_one, locate_of, attributes_of, typed_of_two};
 ghost use Rattle.kmip_words.specs.Calls.{create_aes_of, typed_of_three, plain_call, typed_call};
-ghost use Rattle.kmip_words.specs.Calls.{rng_of, raw_of};
+ghost use Rattle.kmip_words.specs.Calls.{rng_of, raw_of, key_call, call_of_one, call_of_two};
+ghost use Rattle.kmip_words.specs.Calls.{sign_of, rename_of, call_of_three, create_rsa_of};
+ghost use Rattle.kmip_words.specs.Calls.{call_of_four, with_response, call_of_words, call_of};
+ghost use Rattle.kmip_words.specs.Calls.{call_in, call_alone};
 ghost use Rattle.kmip_request_words.specs.Asked.{asked_in};
-ghost use Rattle.kmip_words.specs.Calls.{key_call, call_of_one, call_of_two, sign_of, rename_of};
-ghost use Rattle.kmip_words.specs.Calls.{call_of_three, create_rsa_of, call_of_four, with_response};
-ghost use Rattle.kmip_words.specs.Calls.{call_of_words, call_of, call_in, call_alone};
-ghost use Rattle.kmip_words.specs.declared.call.Call.TheVariants.{Request};
+ghost use Rattle.kmip_words.specs.declared.call.Call.TheVariants.{Request, Raw};
+ghost use Rattle.kmip_words.specs.Exchange.{IsRequestOf, operation_asked};
 
 use crate::raw::RawRequest;
-use kmip_request::RequestPayload;
+use kmip_enums::Operation;
+use kmip_request::{
+    RequestPayload, activate_request, destroy_request, get_request, key_pair_request,
+    query_request, rename_request, revoke_request, sign_request,
+};
+use kmip_request_read::same_message;
 use kmip_request_words::{
     asked_in, attributes_request, bytes_of, create_aes_request, discover_request, int_of,
     locate_request, why_refused, word_text, words_of,
 };
-use kmip_wire::{Blob, Boxed, OutOfMemory, Text};
+use kmip_types::DataLength;
+use kmip_wire::{Blob, Boxed, OutOfMemory, Text, TryClone};
 use std::alloc::Global;
 use std::str;
 
@@ -427,5 +435,61 @@ pub fn typed_call(alloc: Global, words: &[Text]) -> Result<Option<Call>, OutOfMe
     match asked_in(alloc, words)? {
         Some(payload) => call_making(alloc, payload),
         None => Ok(None),
+    }
+}
+
+/// The request that is given by its bytes.
+fn raw_request(alloc: Global, request: &RawRequest) -> Result<RequestPayload, OutOfMemory>
+    ensures { IfOk result (λ made. IsRequestOf made (Raw request.now)) }
+{
+    same_message();
+    request.payload(alloc)
+}
+
+/// The request of a call, with memory of its own.
+pub fn request_for(alloc: Global, call: &Call) -> Result<RequestPayload, OutOfMemory>
+    ensures { IfOk result (λ made. IsRequestOf made call.now) }
+{
+    match call {
+        Call::Query => query_request(alloc),
+        Call::CreateRsa {
+            key_length,
+            private_key_name,
+            public_key_name,
+        } => {
+            let private_key_name = private_key_name.try_clone(alloc)?;
+            let public_key_name = public_key_name.try_clone(alloc)?;
+            key_pair_request(alloc, *key_length, private_key_name, public_key_name)
+        }
+        Call::Rng { num_bytes } => Ok(RequestPayload::RNGRetrieve(DataLength(*num_bytes))),
+        Call::Sign { id, bytes } => sign_request(alloc, id.as_str(), bytes.as_slice()),
+        Call::Activate { id } => activate_request(alloc, id.as_str()),
+        Call::Revoke { id } => revoke_request(alloc, id.as_str()),
+        Call::Destroy { id } => destroy_request(alloc, id.as_str()),
+        Call::Rename { id, new_name } => {
+            rename_request(alloc, id.as_str(), new_name.try_clone(alloc)?)
+        }
+        Call::Get { id } => get_request(alloc, id.as_str()),
+        Call::Raw { request } => raw_request(alloc, request),
+        Call::Request { payload } => payload.get().try_clone(alloc),
+    }
+}
+
+/// The operation of a call's request.
+pub fn operation_for(alloc: Global, call: &Call) -> Result<Operation, OutOfMemory>
+    ensures { IfOk result (λ operation. operation ≡ operation_asked call.now) }
+{
+    match call {
+        Call::Query => Ok(Operation::Query),
+        Call::CreateRsa { .. } => Ok(Operation::CreateKeyPair),
+        Call::Rng { .. } => Ok(Operation::RNGRetrieve),
+        Call::Sign { .. } => Ok(Operation::Sign),
+        Call::Activate { .. } => Ok(Operation::Activate),
+        Call::Revoke { .. } => Ok(Operation::Revoke),
+        Call::Destroy { .. } => Ok(Operation::Destroy),
+        Call::Rename { .. } => Ok(Operation::ModifyAttribute),
+        Call::Get { .. } => Ok(Operation::Get),
+        Call::Raw { request } => request.operation(alloc),
+        Call::Request { payload } => Ok(payload.get().operation()),
     }
 }

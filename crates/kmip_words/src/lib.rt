@@ -19,7 +19,6 @@ mod lookup;
 mod offline;
 mod raw;
 mod refusal;
-mod requests;
 mod setup;
 mod show;
 mod strays;

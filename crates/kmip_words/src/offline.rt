@@ -13,11 +13,10 @@ ghost use Rattle.kmip_words.specs.JsonLines.{IsGrammarLine, IsJsonLine};
 
 use crate::about::objection;
 use crate::answers::push_answer;
-use crate::call::Call;
+use crate::call::{Call, operation_for, request_for};
 use crate::ending::Ending;
 use crate::laws::lines_are_json;
 use crate::refusal::push_internal_error;
-use crate::requests::{operation_for, request_for};
 use crate::setup::authentication_of;
 use crate::strays::show_failure;
 use kmip_client::{Error, Reading, read_response};

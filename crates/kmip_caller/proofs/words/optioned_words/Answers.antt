@@ -1,6 +1,6 @@
 use Rattle.std.proofs.Common.{◌∙◌}
 use Rattle.kmip_caller.proofs.Orders.{optioned_words_are}
-use Rattle.kmip_caller.proofs.tree_words.optioned_words.Goals as goal
+use Rattle.kmip_caller.proofs.words.optioned_words.Goals as goal
 
 pub returns : goal.returns
 returns c =

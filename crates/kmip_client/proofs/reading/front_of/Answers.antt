@@ -1,7 +1,7 @@
 use Rattle.std.proofs.Common.{◌∙◌, sym, ap, arith}
 use Rattle.kmip_wire.specs.Heads.{head_says}
 use Rattle.kmip_client.proofs.Messages.{message_short, message_refused, message_cut, message_whole}
-use Rattle.kmip_client.proofs.front.front_of.Goals as goal
+use Rattle.kmip_client.proofs.reading.front_of.Goals as goal
 
 pub returns-in_default : goal.returns-in_default
 returns-in_default c = sym (message_short c.args.bytes.now c.args.config.now.max_bytes c.in_default.ensures.cases)

@@ -1,7 +1,7 @@
 use Rattle.std.proofs.Common.{◌≡◌, ◌≤◌, length, arith, ◌∙◌, ap, sym, IsTrue, None, Some, vec_len}
 use Rattle.kmip_caller.specs.Wire.{contents_of}
 use Rattle.kmip_caller.proofs.Messages.{one_head, one_message_or, head_taken, message_taken_or, head_part, contents_part}
-use Rattle.kmip_caller.proofs.wire.read_message.Goals as goal
+use Rattle.kmip_caller.proofs.exchange.read_message.Goals as goal
 
 pub returns-in_err-read_up_to-clause-part : goal.returns-in_err-read_up_to-clause-part
 returns-in_err-read_up_to-clause-part g c = λ visible. head_part c.args.limit (c.read_up_to.ensures.part visible)

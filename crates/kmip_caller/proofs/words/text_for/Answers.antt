@@ -1,6 +1,6 @@
 use Rattle.std.proofs.Common.{sym}
 use Rattle.kmip_caller.proofs.Contents.{text_for_utf8, text_for_other}
-use Rattle.kmip_caller.proofs.file_words.text_for.Goals as goal
+use Rattle.kmip_caller.proofs.words.text_for.Goals as goal
 
 pub returns-in_ok-of-in-Ok : goal.returns-in_ok-of-in-Ok
 returns-in_ok-of-in-Ok c =

@@ -2,7 +2,7 @@ use Rattle.std.proofs.Common.{refl, rules, w32, SFits}
 use Rattle.std.proofs.lemmas.Int.{to_z-of_z}
 use Rattle.kmip_client.specs.Requests.{key_pair_request, rename_request}
 use Rattle.kmip_words.proofs.Exchanges.{request_made}
-use Rattle.kmip_words.proofs.requests.request_for.Goals as goal
+use Rattle.kmip_words.proofs.call.request_for.Goals as goal
 
 pub returns-in_ok-public_key_name-in-CreateRsa : goal.returns-in_ok-public_key_name-in-CreateRsa
 returns-in_ok-public_key_name-in-CreateRsa c =

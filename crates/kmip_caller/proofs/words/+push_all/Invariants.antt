@@ -1,5 +1,5 @@
 use Rattle.std.proofs.Common.{length}
-use Rattle.kmip_caller.proofs.file_words.+push_all.Given as goal
+use Rattle.kmip_caller.proofs.words.+push_all.Given as goal
 
 abbrev pub decreases-push_all : goal.decreases-push_all
 decreases-push_all l = length l.words.now
