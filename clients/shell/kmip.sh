@@ -269,11 +269,18 @@ kmip_words() { # CALL WORD..
         KMIP_WORDS+=("$KMIP_WORD")
     done
     case $1 in
-    raw | hash | rng-seed) kmip_bytes_word 1 "$@" ;;
+    raw | hash | rng-seed | cancel | poll) kmip_bytes_word 1 "$@" ;;
     sign | register | encrypt | decrypt | mac | mac-verify | verify) kmip_bytes_word 2 "$@" ;;
     esac
     # (the code and the signature that are verified are no secret)
-    if [[ $1 == mac-verify || $1 == verify ]] && [[ ${4-} == @* ]]; then KMIP_WORDS[3]=$4; fi
+    if [[ $1 == mac-verify || $1 == verify ]] && [[ ${4-} == @* ]]; then
+        KMIP_WORDS[3]=$4
+        # By descriptor 3 kmip_call gets the data, and would take their end for the code.
+        if [[ $4 == @3 && -n $KMIP_GIVES ]]; then
+            KMIP_WORDS[3]=$(kmip_hex 2>/dev/null <&3) || KMIP_WORDS[3]=none
+            KMIP_WORDS[3]=${KMIP_WORDS[3]:--}
+        fi
+    fi
     if $is_of_table; then
         kmip_new_id
         KMIP_WORDS=("$KMIP_ID" "${KMIP_WORDS[@]}")
