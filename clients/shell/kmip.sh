@@ -540,11 +540,16 @@ kmip() { # CALL WORD..
     esac
 }
 
-# Whether no word is the hex digits of PEM, which would be kept as the bytes of a key. Where one is, the status is 2.
+# Whether no word is the hex digits of PEM, or @FILE with a file of it: it would be kept as the bytes of a key. Where one is, the
+# status is 2.
 kmip_not_pem() { # WORD..
-    [[ " $* " =~ \ 2[Dd]2[Dd]2[Dd]2[Dd]2[Dd]424547494[Ee]20 ]] || return 0
-    kmip_fails GrammarError 'the key is PEM: kmip register-private and register-public take it'
-    return 2
+    local word
+    for word in "$@"; do
+        if [[ $word == @* && -f ${word#@} && -r ${word#@} ]]; then word=$(head -c 999 -- "${word#@}" | kmip_hex); fi
+        [[ $word =~ ^(0[9A-Da-d]|20)*2[Dd]2[Dd]2[Dd]2[Dd]2[Dd]424547494[Ee]20 ]] || continue
+        kmip_fails GrammarError 'the key is PEM: kmip register-private and register-public take it'
+        return 2
+    done
 }
 
 # The same for a call of kmip_call.

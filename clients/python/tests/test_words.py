@@ -450,7 +450,7 @@ class Refused(unittest.TestCase):
         for one in (pem, bytearray(b'\n ' + pem)):
             with self.assertRaisesRegex(GrammarError, 'the key is PEM'):
                 call_of('register', ['private', one], key)
-        for digits in (pem.hex(), pem.hex().upper()):
+        for digits in (pem.hex(), pem.hex().upper(), (b'\n ' + pem).hex()):
             with self.assertRaisesRegex(GrammarError, 'the key is PEM'):
                 words_of(['register', 'private', digits, 'format=PKCS8'])
         self.assertIn('sign', given(call_of('sign', ['k', pem])))
