@@ -268,12 +268,12 @@ kmip_words() { # CALL WORD..
         kmip_escape_option "$word"
         KMIP_WORDS+=("$KMIP_WORD")
     done
-    case $1 in
+    case ${1-} in
     raw | hash | rng-seed | cancel | poll) kmip_bytes_word 1 "$@" ;;
     sign | register | encrypt | decrypt | mac | mac-verify | verify) kmip_bytes_word 2 "$@" ;;
     esac
     # (the code and the signature that are verified are no secret)
-    if [[ $1 == mac-verify || $1 == verify ]] && [[ ${4-} == @* ]]; then
+    if [[ ${1-} == mac-verify || ${1-} == verify ]] && [[ ${4-} == @* ]]; then
         KMIP_WORDS[3]=$4
         # By descriptor 3 kmip_call gets the data, and would take their end for the code.
         if [[ $4 == @3 && -n $KMIP_GIVES ]]; then

@@ -87,7 +87,7 @@ def _length_of(call: Call) -> int:
 
 
 def _front(room: Any, length: int) -> bytes:
-    """The first bytes of a buffer. (``ctypes.string_at`` takes the low 32 bits of a length alone.)"""
+    """The first bytes of a buffer. (Of a length ``ctypes.string_at`` takes the low 32 bits.)"""
     return memoryview(room)[:length].tobytes()
 
 

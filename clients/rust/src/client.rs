@@ -508,8 +508,8 @@ pub(crate) enum Asked<'a> {
 }
 
 impl<'a> Asked<'a> {
-    /// The same call with a Unique Batch Item ID that no answer to another call has; a typed one, whose
-    /// request has none, as it is.
+    /// The same call with a Unique Batch Item ID that no answer to another call has; a typed one,
+    /// whose request has none, as it is.
     fn identified(self, item_id: &'a mut [u8], random: Random) -> Result<Self> {
         if matches!(self, Asked::Words(words, _) if words.is_typed()) {
             return Ok(self);
