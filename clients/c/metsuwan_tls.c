@@ -3,12 +3,12 @@
 #define _POSIX_C_SOURCE 200809L
 #include "metsuwan_internal.h"
 
+#include <openssl/crypto.h>
 #include <openssl/ssl.h>
 #include <stdarg.h>
 #include <stdio.h>
 #include <stdlib.h>
 #include <string.h>
-#include <strings.h>
 #include <unistd.h>
 
 #define HEAD 8
@@ -537,17 +537,25 @@ static int exchange_of(kmip_client *client, size_t length) {
     return status;
 }
 
-static bool begins_with(const kmip_word *word, const char *front) {
-    size_t length = strlen(front);
-    return word->length >= length && memcmp(word->bytes, front, length) == 0;
+/* The byte of data at a place, or that which two hex digits of a text spell; -1: there is none. */
+static int byte_at(const kmip_word *word, size_t at) {
+    if (word->is_data) return at < word->length ? word->bytes[at] : -1;
+    if (at >= word->length / 2) return -1;
+    int high = OPENSSL_hexchar2int(word->bytes[2 * at]);
+    int low = OPENSSL_hexchar2int(word->bytes[2 * at + 1]);
+    return high < 0 || low < 0 ? -1 : high << 4 | low;
 }
 
-/* Whether a word is the beginning of a text of PEM: as bytes, or as hex digits. */
+/* Whether a word is the beginning of a text of PEM, also behind white space: as bytes, or as hex
+   digits. */
 static bool is_pem(const kmip_word *word) {
-    static const char digits[] = "2D2D2D2D2D424547494E20"; /* "-----BEGIN " */
-    if (word->is_data) return begins_with(word, "-----BEGIN ");
-    return word->length >= sizeof digits - 1 &&
-           strncasecmp((const char *)word->bytes, digits, sizeof digits - 1) == 0;
+    static const char front[] = "-----BEGIN ";
+    size_t at = 0, found = 0;
+    for (int byte = byte_at(word, 0); byte == ' ' || (byte >= '\t' && byte <= '\r');)
+        byte = byte_at(word, ++at);
+    while (front[found] && byte_at(word, at + found) == front[found])
+        found++;
+    return !front[found];
 }
 
 /* What a call of these words would do that is not meant, or of which word there is none. */

@@ -268,12 +268,19 @@ kmip_words() { # CALL WORD..
         kmip_escape_option "$word"
         KMIP_WORDS+=("$KMIP_WORD")
     done
-    case $1 in
-    raw | hash | rng-seed) kmip_bytes_word 1 "$@" ;;
+    case ${1-} in
+    raw | hash | rng-seed | cancel | poll) kmip_bytes_word 1 "$@" ;;
     sign | register | encrypt | decrypt | mac | mac-verify | verify) kmip_bytes_word 2 "$@" ;;
     esac
     # (the code and the signature that are verified are no secret)
-    if [[ $1 == mac-verify || $1 == verify ]] && [[ ${4-} == @* ]]; then KMIP_WORDS[3]=$4; fi
+    if [[ ${1-} == mac-verify || ${1-} == verify ]] && [[ ${4-} == @* ]]; then
+        KMIP_WORDS[3]=$4
+        # By descriptor 3 kmip_call gets the data, and would take their end for the code.
+        if [[ $4 == @3 && -n $KMIP_GIVES ]]; then
+            KMIP_WORDS[3]=$(kmip_hex 2>/dev/null <&3) || KMIP_WORDS[3]=none
+            KMIP_WORDS[3]=${KMIP_WORDS[3]:--}
+        fi
+    fi
     if $is_of_table; then
         kmip_new_id
         KMIP_WORDS=("$KMIP_ID" "${KMIP_WORDS[@]}")
@@ -533,11 +540,16 @@ kmip() { # CALL WORD..
     esac
 }
 
-# Whether no word is the hex digits of PEM, which would be kept as the bytes of a key. Where one is, the status is 2.
+# Whether no word is the hex digits of PEM, or @FILE with a file of it: it would be kept as the bytes of a key. Where one is, the
+# status is 2.
 kmip_not_pem() { # WORD..
-    [[ " $* " =~ \ 2[Dd]2[Dd]2[Dd]2[Dd]2[Dd]424547494[Ee]20 ]] || return 0
-    kmip_fails GrammarError 'the key is PEM: kmip register-private and register-public take it'
-    return 2
+    local word
+    for word in "$@"; do
+        if [[ $word == @* && -f ${word#@} && -r ${word#@} ]]; then word=$(head -c 999 -- "${word#@}" | kmip_hex); fi
+        [[ $word =~ ^(0[9A-Da-d]|20)*2[Dd]2[Dd]2[Dd]2[Dd]2[Dd]424547494[Ee]20 ]] || continue
+        kmip_fails GrammarError 'the key is PEM: kmip register-private and register-public take it'
+        return 2
+    done
 }
 
 # The same for a call of kmip_call.

@@ -6,6 +6,7 @@ bytes, or a number for either.
 """
 from __future__ import annotations
 
+import binascii
 from typing import Dict, Iterator, Mapping, NamedTuple, Sequence, Tuple, Union
 
 from .errors import GrammarError
@@ -15,7 +16,6 @@ from .pem import is_pem
 Bytes = Union[bytes, bytearray, memoryview]
 Word = Union[str, Bytes, int]
 Option = Union[Word, bool, Sequence[str], None]
-PEM_IN_HEX = b'-----BEGIN '.hex().upper().encode()
 
 
 class Kind(NamedTuple):
@@ -198,10 +198,18 @@ def _options_of(name: str, options: Mapping[str, Option]) -> Iterator[str]:
         yield option if kind is FLAG else '%s=%s' % (option, _text_of(value))
 
 
+def _spelled(digits: bytes) -> bytes:
+    """The bytes that hex digits spell; none, where these are others."""
+    try:
+        return binascii.unhexlify(digits)
+    except binascii.Error:
+        return b''
+
+
 def _without_pem(call: Words) -> Words:
     """The same call, where it does not register a text of PEM."""
     for word, is_data in call.words[1:] if call.name == b'register' else ():
-        if is_pem(word) if is_data else word[:len(PEM_IN_HEX)].upper() == PEM_IN_HEX:
+        if is_pem(word if is_data else _spelled(word)):
             raise GrammarError('register: the key is PEM, which would be kept as its bytes: '
                                'register_private_key and register_public_key take it')
     return call

@@ -86,6 +86,11 @@ def _length_of(call: Call) -> int:
     return sum(len(word) for word, _ in call.words)
 
 
+def _front(room: Any, length: int) -> bytes:
+    """The first bytes of a buffer. (Of a length ``ctypes.string_at`` takes the low 32 bits.)"""
+    return memoryview(room)[:length].tobytes()
+
+
 def _loaded(path: str) -> ctypes.CDLL:
     try:
         return ctypes.CDLL(path)
@@ -164,7 +169,7 @@ class Library:
             if length < 0:
                 return length
             if length <= room:
-                return ctypes.string_at(into, length)
+                return _front(into, length)
             room = length
 
     def refusal(self, call: Call) -> Optional[str]:
@@ -187,7 +192,7 @@ class Library:
             if length < 0:
                 return None
             if length <= room:
-                return ctypes.string_at(into, length).decode()
+                return _front(into, length).decode()
             room = length
 
     def contents_len(self, head: bytes, limit: int) -> int:
@@ -207,5 +212,5 @@ class Library:
             into, length = ctypes.create_string_buffer(room), ctypes.c_int64()
             status: int = read(*given, into, room, length)
             if length.value <= room:
-                return status, ctypes.string_at(into, length.value).decode()
+                return status, _front(into, length.value).decode()
             room = length.value

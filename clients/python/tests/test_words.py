@@ -5,6 +5,7 @@ import re
 import subprocess
 import unittest
 from typing import Any, Dict, List, Tuple, Union
+from unittest import mock
 
 from metsuwan import GrammarError
 from metsuwan.calls import (BYTES, CALLS, KINDS, MORE, NAMES, NUMBER, TABLE, TEXT, TRUTH, WORDS,
@@ -231,6 +232,15 @@ class Requests(unittest.TestCase):
         answer = library.answer(call._replace(item_id=b'id'), response(18, identifier('k')))
         self.assertEqual(answer, (ANSWERED, '{"answer":{}}\n'))
 
+    def test_lengths_have_64_bits(self) -> None:
+        # `ctypes.string_at` takes 2 ** 32 + 3 for 3. (A test has not the memory for so many bytes.)
+        library, call = Library(), call_of('activate', ['k'])
+        with mock.patch('ctypes.string_at') as cut:
+            self.assertIsInstance(library.request(call), bytes)
+            self.assertEqual(library.refusal(words_of([])), 'no call is given')
+            self.assertEqual(library.answer(call, response(18, identifier('k')))[0], ANSWERED)
+        cut.assert_not_called()
+
     def test_raw_takes_the_bytes_of_a_request(self) -> None:
         made = request(0, 18, identifier('k'))
         self.assertEqual(self.of('raw', made), made)
@@ -440,7 +450,7 @@ class Refused(unittest.TestCase):
         for one in (pem, bytearray(b'\n ' + pem)):
             with self.assertRaisesRegex(GrammarError, 'the key is PEM'):
                 call_of('register', ['private', one], key)
-        for digits in (pem.hex(), pem.hex().upper()):
+        for digits in (pem.hex(), pem.hex().upper(), (b'\n ' + pem).hex()):
             with self.assertRaisesRegex(GrammarError, 'the key is PEM'):
                 words_of(['register', 'private', digits, 'format=PKCS8'])
         self.assertIn('sign', given(call_of('sign', ['k', pem])))

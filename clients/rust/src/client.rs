@@ -508,8 +508,12 @@ pub(crate) enum Asked<'a> {
 }
 
 impl<'a> Asked<'a> {
-    /// The same call with a Unique Batch Item ID that no answer to another call has.
+    /// The same call with a Unique Batch Item ID that no answer to another call has; a typed one,
+    /// whose request has none, as it is.
     fn identified(self, item_id: &'a mut [u8], random: Random) -> Result<Self> {
+        if matches!(self, Asked::Words(words, _) if words.is_typed()) {
+            return Ok(self);
+        }
         random(item_id).map_err(Error::no_random)?;
         Ok(match self {
             Asked::Words(words, _) => Asked::Words(words, item_id),
@@ -654,6 +658,15 @@ mod tests {
         assert_eq!(error.to_string(), wanted);
         assert_eq!(error.details().io_error().and_then(io::Error::raw_os_error), Some(38));
         assert!(error.is_lost() && !client.is_open());
+    }
+
+    #[test]
+    fn a_typed_call_wants_no_random_bytes() {
+        let mut client = ClientBuilder::new(io::Cursor::new(Vec::<u8>::new())).build();
+        client.random = |_| Err(io::Error::from_raw_os_error(38));
+        // It is sent, and no answer comes.
+        let error = client.call("activate", &[Word::Text("k")]).unwrap_err();
+        assert!(matches!(error, Error::ResponseReadError(_)), "{error}");
     }
 
     #[test]

@@ -140,9 +140,10 @@ fn blocks(mut text: &str) -> Vec<(&str, &str)> {
     found
 }
 
-/// Whether bytes begin as a text of PEM does.
+/// Whether bytes begin as a text of PEM does, also behind white space.
 pub(crate) fn is_pem(bytes: &[u8]) -> bool {
-    bytes.starts_with(b"-----BEGIN ")
+    let blank = bytes.iter().take_while(|byte| byte.is_ascii_whitespace()).count();
+    bytes[blank..].starts_with(b"-----BEGIN ")
 }
 
 /// The key block of the key of this kind that a text of PEM holds, and nothing else.

@@ -96,6 +96,12 @@ fn check(name: &str, words: &[Word<'_>]) -> Result<()> {
     let Some((_, count, bytes)) = calls.find(|(call, ..)| *call == name) else {
         return Err(Error::grammar(format!("there is no call {name}")));
     };
+    let is_option = |word: &Word<'_>| matches!(word, Word::Option(..));
+    if name == "locate" && words.len() > 1 && !words.iter().all(is_option) {
+        // A name as `state=Active` would be taken for an attribute.
+        let text = "locate: a name stands alone; beside attributes it is one, name=";
+        return Err(Error::grammar(text));
+    }
     for (at, word) in words.iter().enumerate() {
         let wrong = match word {
             Word::Option(..) if at < *count => "may not be an option",
@@ -186,6 +192,11 @@ impl Words {
             Kept::Text(text) => Some(text.as_str()),
             Kept::Data(_) => None,
         })
+    }
+
+    /// Whether the call is a typed one, whose request has no Unique Batch Item ID.
+    pub(crate) fn is_typed(&self) -> bool {
+        CALLS.iter().any(|(call, ..)| self.texts().next() == Some(*call))
     }
 
     /// As the library takes them.
@@ -294,9 +305,15 @@ mod tests {
         refused("encrypt", &[option], "encrypt: word 1 after it may not be an option");
         refused("attributes", &[key, option], "attributes: word 2 after it may not be an option");
         refused("validate", &[key, option], "validate: word 2 after it may not be an option");
-        for name in ["get", "locate", "archive", "attribute-add"] {
+        for name in ["get", "archive", "attribute-add"] {
             assert!(Words::new(name, &[key, option]).is_ok());
         }
+        let alone = "locate: a name stands alone; beside attributes it is one, name=";
+        let name = Word::Text("state=Active");
+        for words in [[key, option], [name, Word::Option("group", "g")], [name, name]] {
+            refused("locate", &words, alone);
+        }
+        assert!(Words::new("locate", &[option, option]).is_ok());
     }
 
     #[test]

@@ -14,6 +14,8 @@ script_is 'set -e: kmip_field says the error' 2 "$strict"' open; kmip_field oper
 says 'set -e: as a line of JSON' '^\{"error":'
 script_is 'set -u: calls with no connection, and kmip_close' 0 "$strict"' kmip query || echo "status $?"; kmip_close; kmip_field x query || echo "status $?"; echo "the end"'
 says 'set -u: they have status 3' '^status 3$'
+script_is 'set -u: a call with no name' 0 "$strict"' open; kmip || echo "status $?"; kmip query; kmip_close'
+says 'set -u: it has status 2' '^status 2$'
 script_is 'set -e: kmip_open twice' 2 "$strict"' open; open'
 script_is 'set -e: no words' 2 "$strict"' kmip_open'
 fake nobody

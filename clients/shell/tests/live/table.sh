@@ -92,5 +92,13 @@ KMIP_RECORD=record KMIP_USER=u KMIP_PASSWORD=geheim script_is 'a day with an Enc
     ! grep -q 67656865696D record
 verdict 'each call has its line, and none the password'
 script_is 'a code that is verified, of a file' 0 'open; kmip mac-verify "my key" 68656C6C6F @code.bin; kmip_close'
+script_is 'bytes of a file that tell which operation is ended' 0 'kmip_words cancel @code.bin; [[ "${KMIP_WORDS[*]}" == *" cancel @code.bin" ]]
+    kmip_words poll @code.bin && [[ "${KMIP_WORDS[*]}" == *" poll @code.bin" ]]'
 script_is 'a field of a plain answer' 0 'open; kmip_field unique_identifier hash 68656C6C6F hash=SHA256; kmip_close'
 says 'is written' '^1$'
+# RFC 4231, 4.2: the data comes by a descriptor of the client's, the code by one of the caller's that has the same number.
+fake ciphers
+printf 'Hi There' | openssl dgst -sha256 -mac HMAC -macopt "hexkey:$(printf '0B%.0s' {1..20})" -binary >code.bin
+script_is 'a code that is verified, of a descriptor' 0 '
+    open; kmip_field validity_indicator mac-verify secret 4869205468657265 @3 hash=SHA_256 3<code.bin; kmip_close'
+says 'is that of the data' '^Valid$'
