@@ -212,10 +212,13 @@ def no_batches(wire, request):
 
 @fake
 def ids(wire, request):
-    """answers with the Unique Batch Item ID of the request as its data, where there is one"""
-    name = id_of(request)
-    wire.sendall(response(operation_of(request), [identifier(value_of(request, '420094', 7) or b'1'),
-                                                  b'' if name is None else octets(0x4200C2, name)]))
+    """answers with the Unique Batch Item ID of the request as its data, where there is one; with it or `no id` as a signature"""
+    name, operation = id_of(request), operation_of(request)
+    if operation == SIGN:
+        data = octets(0x4200C3, name or b'no id')
+    else:
+        data = b'' if name is None else octets(0x4200C2, name)
+    wire.sendall(response(operation, [identifier(value_of(request, '420094', 7) or b'1'), data]))
 
 
 def answer_or_failure(request):

@@ -65,8 +65,9 @@ static void own(kmip_client *client, const kmip_settings *settings) {
         for (size_t j = 0; j < i; j++)
             differ = differ && memcmp(ids[i], ids[j], 8) != 0;
     check(differ, "and each another one");
-    check(kmip_call(client, "activate", "k", NULL) == KMIP_ANSWERED, "a typed call");
-    check(!kmip_bytes(client, "Data", NULL) && !kmip_bytes(client, "data", NULL), "has none");
+    check(kmip_call(client, "sign", "k", "00", NULL) == KMIP_ANSWERED, "a typed call");
+    const uint8_t *data = kmip_bytes(client, "signature_data", &length);
+    check(data && length == 5 && memcmp(data, "no id", 5) == 0, "has none");
 }
 
 /* Where the system has no random bytes, nothing is sent. */

@@ -73,7 +73,8 @@ class Operations:
     """The methods of a client that stand on ``call`` and ``operation``. Each is of KMIP 1.2 where
     nothing else is said, and raises what every call does: ``ServerError`` where the server refuses,
     as for a key that is not active or may not be used so; ``GrammarError`` for a name that KMIP has
-    not. The number of a name, as a vendor has one, is taken by ``operation`` alone."""
+    not. The number of a name, as a vendor has one, is taken by ``operation`` and
+    ``derive_key`` alone."""
 
     def call(self, name: str, /, *words: Word, **options: Option) -> Dict[str, Any]:
         """Makes a call by its words."""
