@@ -13,7 +13,7 @@
 # how many, and nothing is written into the checkout. clients/install.sh installs what is in the folder.
 #
 #   --unproved       compiles at once, and checks no contract: to try things out. It takes two to four minutes
-#   --encoder        also makes FOLDER/kmip_ttlv, the program that turns items into JSON and XML, and JSON into items
+#   --encoder        also makes FOLDER/kmip_ttlv, the program that turns items into JSON and XML, and back
 #   --provider       also makes FOLDER/metsuwan.so, the provider for OpenSSL 3 (docs/OPENSSL.md)
 #   --whole          makes both, and FOLDER/kmip.html, the page that shows captured messages (clients/web/build.sh)
 #   --program FILE   takes this kmip_call, which was built before

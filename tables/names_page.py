@@ -7,8 +7,8 @@ HEAD = """\
 
 ## Values of options
 
-An option takes names of an enumeration below, in every client; where a value has two names, the one
-in brackets. `kmip_call --help` lists them all. `operation NAME` takes either name.
+An option of a typed call takes names of an enumeration below, in every client; where a value has two
+names, the one in brackets. `kmip_call --help` lists them all. Other calls take either name.
 
 | option, or word | enumeration |
 |---|---|
@@ -18,8 +18,8 @@ in brackets. `kmip_call --help` lists them all. `operation NAME` takes either na
 
 A number is written as its name; one without a name as `0x` and eight digits, a form that is read for
 every number. A name in brackets is that of kmip-protocol: read, and never written. The numbers here
-are in hex, and grow by 1 from name to name. The enumerations are those of KMIP 1.2, 9.1.3.2, whose
-text `tables/spelling.py` spells by the rule of OASIS's encodings.
+are in hex, and grow by 1 from name to name. The enumerations are those of KMIP 1.2, 9.1.3.2, spelled
+by the rule of OASIS's encodings.
 
 | enumeration | values |
 |---|---|

@@ -38,7 +38,8 @@
        raw DATA                          the request of these bytes, of any of the seventeen
                                          operations
 
-   and beside them stand the calls of a table, one for each further operation of KMIP 1.2, as
+   and beside them stand the calls of a table, for further operations of KMIP 1.2 and for keys of
+   any algorithm, as
 
        encrypt ID DATA [mode=CBC] [iv=HEX] ..
        decrypt ID DATA, mac ID DATA, verify ID DATA SIGNATURE, hash DATA hash=SHA_256
@@ -237,8 +238,8 @@ int32_t kmip_answer(const kmip_word *words, size_t count, const uint8_t *id, siz
 int64_t kmip_value(const uint8_t *line, size_t line_len, const uint8_t *path, size_t path_len,
                    bool hex, uint8_t *into, size_t room);
 
-/* Any operation, by its name and its payload in JSON: its request, as kmip_request writes one.
-   Returns its length in bytes.
+/* Any operation, by its name and its payload in JSON or XML: its request, as kmip_request writes
+   one. Returns its length in bytes.
 
    name, name_len           the operation's name, as Encrypt, MACVerify or Rekey
    version, version_len     the version that the request names: 1.0, 1.1 or 1.2
@@ -247,11 +248,12 @@ int64_t kmip_value(const uint8_t *line, size_t line_len, const uint8_t *path, si
                             random ones; an id_len of 0: none is sent
    payload, payload_len     the request's payload, in the JSON of KMIP's Additional Message
                             Encodings: {"tag":"RequestPayload","value":[{"tag":"Data",
-                            "type":"ByteString","value":"00FF"}]}
+                            "type":"ByteString","value":"00FF"}]}; or in their XML, where it
+                            begins with <
    has_credential .. room   as for kmip_request
-   KMIP_LENGTH_GRAMMAR      the name or the version is none of these, the payload is no JSON of a
-                            structure with the tag RequestPayload or has an empty Unique Identifier,
-                            or a text is not UTF-8
+   KMIP_LENGTH_GRAMMAR      the name or the version is none of these, the payload is no JSON or
+                            XML of a structure with the tag RequestPayload or has an empty Unique
+                            Identifier, or a text is not UTF-8
    KMIP_LENGTH_NO_FORM      the request has no wire form: a text is too long for it, or the bytes
                             of a Big Integer are no multiple of eight
    KMIP_LENGTH_MEMORY       out of memory */

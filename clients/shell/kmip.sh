@@ -45,7 +45,8 @@
 #   KMIP_RECORD      a file that each call and its response are added to
 #   KMIP_CALL        the program, if it is not kmip_call on the path: its path, or words
 #
-# It needs bash 5.0, openssl 3.0, flock (util-linux), timeout, mkfifo and od (coreutils), jq for kmip_field and `kmip pem`, and /proc.
+# It needs bash 5.0, openssl 3.0, flock (util-linux), timeout, mkfifo and od (coreutils), /proc, and jq for kmip_field,
+# `kmip pem` and `kmip register-private` and its kin.
 
 if ((BASH_VERSINFO[0] < 5)); then
     echo 'kmip.sh: bash 5.0 or later is needed' >&2
