@@ -127,9 +127,40 @@ fn fill_at(rt: &HostRuntime, place: usize, order: &mut Order) -> Result<Option<T
     Ok(None)
 }
 
+/// The descriptor that the word of a call at this place names, where it does.
+fn descriptor_at(order: &Order, place: usize) -> Option<u32> {
+    number_of(file_in(order.words.as_slice(), place)?)
+}
+
+/// Whether a word of a call behind this place names this descriptor.
+fn is_named_behind(order: &Order, place: usize, number: u32) -> bool {
+    for other in place..order.words.len() {
+        match descriptor_at(order, other) {
+            Some(found) if other != place && found == number => return true,
+            _ => {}
+        }
+    }
+    false
+}
+
+/// A descriptor that two words of a call name, whose contents are there once.
+fn named_twice(order: &Order) -> Option<u32> {
+    for place in 0..order.words.len() {
+        match descriptor_at(order, place) {
+            Some(number) if is_named_behind(order, place, number) => return Some(number),
+            _ => {}
+        }
+    }
+    None
+}
+
 /// Puts what files have in the places of the words of a call that name them. It returns why it
 /// cannot.
 fn fill(rt: &HostRuntime, order: &mut Order) -> Result<Option<Text>, OutOfMemory> {
+    if let Some(number) = named_twice(order) {
+        let why = format!(in rt.alloc(); "@{number} stands for two words, and has its bytes once")?;
+        return Ok(Some(Text::of_string(why)));
+    }
     for place in 0..order.words.len() {
         let refusal = fill_at(rt, place, order)?;
         if refusal.is_some() {

@@ -45,6 +45,7 @@ refused 'a word that is missing' '"GrammarError".*encrypt' encrypt 5
 refused 'a mode that is none' '"GrammarError".*mode=.*CBC' encrypt 5 00 mode=XYZ
 refused 'an empty identifier' '"GrammarError"' archive -
 refused 'a file that is not there' '"GrammarError".*cannot read @nowhere' encrypt 5 @nowhere
+refused 'a descriptor for two words' '"GrammarError".*@3 stands for two words' mac-verify 5 @3 @3 3<code.bin
 request user=u password=geheim record=record archive 5 >sent
 [[ $(<record) == "message $(request archive 5 | od -An -v -tx1 | tr -d ' \n' | tr a-f A-F) -" ]]
 verdict 'a call of it is recorded as a message, without its password'
