@@ -23,6 +23,8 @@
 #![warn(missing_docs)]
 
 mod answer;
+#[cfg(feature = "tokio")]
+mod asynchronous;
 mod batch;
 mod calls;
 mod client;
@@ -32,6 +34,8 @@ mod json;
 mod keys;
 pub mod library;
 mod log;
+#[cfg(feature = "r2d2")]
+mod manager;
 mod names;
 mod options;
 mod payload;
@@ -43,6 +47,8 @@ mod tls;
 mod word;
 
 pub use answer::Answer;
+#[cfg(feature = "tokio")]
+pub use asynchronous::{AsyncClient, AsyncPool};
 pub use batch::{Batch, BatchErrorContinuationOption};
 pub use client::{Client, ClientBuilder, Options, DEFAULT_LIMIT};
 pub use error::{Details, Error, Result};
@@ -50,6 +56,8 @@ pub use item::{Item, Value};
 pub use json::{Json, Text};
 pub use keys::SecretDataType;
 pub use log::{Event, EventKind};
+#[cfg(feature = "r2d2")]
+pub use manager::Manager;
 pub use names::{
     CryptographicAlgorithm, CryptographicUsageMask, HashingAlgorithm, KeyFormatType, NotInTable,
     ObjectType, PaddingMethod, RevocationReasonCode, State,
