@@ -123,6 +123,13 @@ impl<T: Read + Write> ClientBuilder<T> {
 
     /// This is told of each call that has ended, and of a connection that is opened again. It is
     /// called within a call of the client, which it may not use.
+    ///
+    /// With the feature `tracing` a subscriber is told of the same, also where there is no listener,
+    /// at the target `metsuwan`, and may not use the client either. The fields are `operation`,
+    /// `server`, `status` as `kmip_call` has it, `error`, its kind, `elapsed_ms`, and `response`, the
+    /// skeleton of a response that is no answer: no value, no identifier, and nothing that the server
+    /// said. The level is `DEBUG` where the call is answered, `WARN` where it is not and where it is
+    /// made again, and `INFO` where the connection is opened again.
     pub fn with_log(self, listener: impl FnMut(&Event<'_>) + Send + 'static) -> Self {
         ClientBuilder { log: Log { listener: Some(Box::new(listener)), ..self.log }, ..self }
     }

@@ -20,6 +20,10 @@
 //! let signature = client.sign(&private_key, b"to be signed")?.signature_data;
 //! # let _ = signature; Ok(()) }
 //! ```
+//!
+//! Three more features stand on the crates of their names: `r2d2` brings `Manager`, for a pool of
+//! that crate; `tokio` brings `AsyncClient` and `AsyncPool`, whose calls are awaited and take a
+//! thread each; with `tracing` that crate is told of each [`Event`].
 #![warn(missing_docs)]
 
 mod answer;

@@ -11,6 +11,7 @@ use std::sync::atomic::{AtomicUsize, Ordering::SeqCst};
 use std::sync::mpsc::{channel, Receiver, Sender};
 use std::sync::{Arc, Mutex};
 use std::task::{Context, Poll, Wake, Waker};
+use std::time::Duration;
 use tokio::runtime::{Builder, Runtime};
 use tokio::task::{spawn, spawn_blocking, yield_now};
 use ttlv::{bytes, identifier, response};
@@ -120,12 +121,14 @@ fn it_is_opened_in_a_thread() {
 fn calls_that_wait_take_no_thread() {
     let (client, sent, begins, go) = held(&answers(9));
     let runtime = Builder::new_current_thread().max_blocking_threads(2).build().unwrap();
-    runtime.block_on(async {
+    runtime.block_on(async move {
         let calls: Vec<_> = (0..9).map(|key| spawn(client.call(sign(key)))).collect();
         yield_now().await;
         begins.recv().unwrap();
         // There is a thread left.
-        assert_eq!(spawn_blocking(|| 5).await.unwrap(), 5);
+        let (sender, receiver) = channel();
+        spawn_blocking(move || sender.send(()));
+        receiver.recv_timeout(Duration::from_secs(20)).unwrap();
         for _ in 0..9 {
             go.send(()).unwrap();
         }
