@@ -14,13 +14,15 @@ for feature in r2d2:manager tokio:asynchronous tracing:events; do
     verdict "with $feature the crate stands on that"
 done
 if ((${#tests[@]} > 0)); then
-    cargo_of_copy test --no-fail-fast --release --features "$(features_here)" --lib "${tests[@]}" >"$said" 2>&1
+    cargo_of_copy test --no-fail-fast --release --features "$(features_here)" "${tests[@]}" >"$said" 2>&1
     status=$?
-    # (a test of the crate that is run here as well as without these features says so)
-    sed -nE 's/^test ([A-Za-z0-9_:]+) \.\.\. ok$/ok      rust: \1, with all features/p
-        s/^test ([A-Za-z0-9_:]+) \.\.\. FAILED$/FAILED  rust: \1, with all features/p' "$said" | tee tests
+    sed -nE 's/^test ([A-Za-z0-9_:]+) \.\.\. ok$/ok      rust: features: \1/p
+        s/^test ([A-Za-z0-9_:]+) \.\.\. FAILED$/FAILED  rust: features: \1/p' "$said" | tee tests
+    # Those that failed have said so.
     ((status == 0)) || { ((status == 101)) && grep -q '^FAILED ' tests; }
     verdict 'the tests of the features are run'
+    cargo_of_copy test --release --features "$(features_here)" --lib -- log:: >"$said" 2>&1
+    verdict 'so are those of the log'
     cargo_of_copy test --release --features "$(features_here)" --doc -- asynchronous manager >"$said" 2>&1
     verdict 'the examples of the features are good'
 fi
