@@ -127,22 +127,3 @@ fn trace(call: Begun<'_>, kind: EventKind, error: Option<&Error>, server: Option
         (EventKind::Reopened, _) => tell!(info, "the connection was lost, and is opened again"),
     }
 }
-
-#[cfg(all(test, feature = "tracing"))]
-#[path = "../tests/subscriber/mod.rs"]
-mod subscriber;
-
-#[cfg(all(test, feature = "tracing"))]
-mod tests {
-    use super::*;
-
-    #[test]
-    fn the_server_is_told() {
-        let told = subscriber::told_by(|| {
-            let mut log = Log { listener: None, server: Some("localhost:5696".into()) };
-            log.report(Begun::begin("sign"), EventKind::Call, None, "");
-        });
-        assert_eq!(told.len(), 1);
-        assert_eq!(told[0].field("server"), Some("localhost:5696"));
-    }
-}
