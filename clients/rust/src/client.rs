@@ -103,7 +103,7 @@ impl<T: Read + Write> ClientBuilder<T> {
 
     /// Before each call this is called with the stream: it may begin a deadline, or look whether
     /// the connection is open. Where it gives an error, nothing is sent, and the call is a
-    /// `RequestWriteError`.
+    /// `RequestWriteError`. A pool of r2d2 has it called, too, when a client is taken.
     pub fn with_before_call(
         self,
         before_call: impl FnMut(&mut T) -> io::Result<()> + Send + 'static,
