@@ -159,3 +159,24 @@ fn what_is_no_call_is_not_told() {
     });
     assert!(told.is_empty(), "{told:?}");
 }
+
+/// It is here since `tracing` may pass over what is told in one thread, where another one without a
+/// subscriber was the first to tell it: every call of this file has one.
+#[cfg(feature = "openssl")]
+#[test]
+#[ignore = "it needs the fake servers"]
+fn the_server_is_told() {
+    let of = |name| std::path::PathBuf::from(std::env::var_os(name).expect(name));
+    let certs = of("METSUWAN_CERTS");
+    let ports = std::fs::read_to_string(of("METSUWAN_FAKES")).unwrap();
+    let port = ports.lines().find_map(|line| line.strip_prefix("good ")).unwrap();
+    let client = metsuwan::TlsConnector::new("localhost", port.parse().unwrap())
+        .with_certificate(certs.join("client.pem"), certs.join("client.key"))
+        .with_authority(certs.join("ca.pem"))
+        .connect()
+        .unwrap()
+        .build();
+    let told = told_by(|| drop(client.query().unwrap()));
+    assert_eq!(told.len(), 1);
+    assert_eq!(told[0].field("server"), Some(format!("localhost:{port}").as_str()));
+}

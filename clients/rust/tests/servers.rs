@@ -1,9 +1,6 @@
 //! Sessions over TLS with servers that make it hard. tests/live/unit.sh starts them, and says
 //! where they are: METSUWAN_FAKES is the file of their ports, METSUWAN_CERTS the folder of their
 //! certificates.
-#[cfg(feature = "tracing")]
-mod subscriber;
-
 use metsuwan::{BatchErrorContinuationOption, Error, EventKind, Item, Pool, Result, Word};
 use metsuwan::{TlsClient, TlsConnector, TlsStream};
 use openssl::ssl::{Ssl, SslContext, SslFiletype, SslMethod, SslVerifyMode};
@@ -536,15 +533,5 @@ mod features {
                 call.await.unwrap().unwrap();
             }
         });
-    }
-
-    #[test]
-    #[ignore = "it needs the fake servers"]
-    #[cfg(feature = "tracing")]
-    fn the_server_is_told() {
-        let told = subscriber::told_by(|| drop(client("good").query().unwrap()));
-        let server = format!("localhost:{}", port_of("good"));
-        assert_eq!(told.len(), 1);
-        assert_eq!(told[0].field("server"), Some(server.as_str()));
     }
 }

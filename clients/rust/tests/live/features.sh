@@ -14,10 +14,10 @@ for feature in r2d2:manager tokio:asynchronous tracing:events; do
     verdict "with $feature the crate stands on that"
 done
 if ((${#tests[@]} > 0)); then
-    cargo_of_copy test --no-fail-fast --release --features "$(features_here)" "${tests[@]}" >"$said" 2>&1
+    fakes() { METSUWAN_FAKES=$run/fakes METSUWAN_CERTS=$certs cargo_of_copy test --no-fail-fast --release "$@"; }
+    fakes --features "$(features_here)" "${tests[@]}" -- --include-ignored >"$said" 2>&1
     status=$?
-    METSUWAN_FAKES=$run/fakes METSUWAN_CERTS=$certs cargo_of_copy test --no-fail-fast --release --features "$(features_here)" \
-        --test servers -- --include-ignored features:: >>"$said" 2>&1
+    fakes --features "$(features_here)" --test servers -- --include-ignored features:: >>"$said" 2>&1
     status+=" $?"
     sed -nE 's/^test (features::)?([A-Za-z0-9_:]+) \.\.\. ok$/ok      rust: features: \2/p
         s/^test (features::)?([A-Za-z0-9_:]+) \.\.\. FAILED$/FAILED  rust: features: \2/p' "$said" | tee tests
