@@ -4,7 +4,7 @@ use crate::batch::{Batch, Ids};
 use crate::error::{Error, Result};
 use crate::item::Item;
 use crate::library::{self, BadHead, NoRequest, Operation, Status};
-use crate::log::{Begun, Event, EventKind, Log};
+use crate::log::{self, Begun, Event, EventKind, Log};
 use crate::options::Given;
 use crate::record::{self, Record};
 use crate::word::{with_options, Word, Words};
@@ -103,7 +103,7 @@ impl<T: Read + Write> ClientBuilder<T> {
 
     /// Before each call this is called with the stream: it may begin a deadline, or look whether
     /// the connection is open. Where it gives an error, nothing is sent, and the call is a
-    /// `RequestWriteError`.
+    /// `RequestWriteError`. A pool of r2d2 has it called, too, when a client is taken.
     pub fn with_before_call(
         self,
         before_call: impl FnMut(&mut T) -> io::Result<()> + Send + 'static,
@@ -123,6 +123,13 @@ impl<T: Read + Write> ClientBuilder<T> {
 
     /// This is told of each call that has ended, and of a connection that is opened again. It is
     /// called within a call of the client, which it may not use.
+    ///
+    /// With the feature `tracing` a subscriber is told of the same, also where there is no listener,
+    /// at the target `metsuwan`, and may not use the client either. The fields are `operation`,
+    /// `server`, `status` as `kmip_call` has it, `error`, its kind, `elapsed_ms`, and `response`, the
+    /// skeleton of a response that is no answer: no value, no identifier, and nothing that the server
+    /// said. The level is `DEBUG` where the call is answered, `WARN` where it is not and where it is
+    /// made again, and `INFO` where the connection is opened again.
     pub fn with_log(self, listener: impl FnMut(&Event<'_>) + Send + 'static) -> Self {
         ClientBuilder { log: Log { listener: Some(Box::new(listener)), ..self.log }, ..self }
     }
@@ -358,6 +365,13 @@ impl<T> Client<T> {
         self.wire().is_open()
     }
 
+    /// Makes no call, and sends nothing: looks at the stream as before a call. After an error it is
+    /// dropped.
+    #[cfg(feature = "r2d2")]
+    pub(crate) fn look(&self) -> Result<()> {
+        self.wire().ends_by(Wire::look)
+    }
+
     /// A call that panicked in the middle of a message has lost the connection, for all who come
     /// after it.
     fn wire(&self) -> MutexGuard<'_, Wire<T>> {
@@ -389,6 +403,13 @@ impl<T> Wire<T> {
         made
     }
 
+    /// Looks at the stream as before a call, where there is one.
+    #[cfg(feature = "r2d2")]
+    fn look(&mut self) -> Result<()> {
+        let Wire { stream: Some(stream), before_call, .. } = self else { return Ok(()) };
+        before_call(stream).map_err(Error::not_sent)
+    }
+
     /// Tells the log that a call of this name has ended, which sent and read so many bytes.
     fn tell_end(
         &mut self,
@@ -399,20 +420,10 @@ impl<T> Wire<T> {
     ) {
         let what = match error {
             Some(error) if read == 0 => error.kind().to_string(),
-            _ => format!("status {}, {sent} bytes sent, {read} read", status_of(error)),
+            _ => format!("status {}, {sent} bytes sent, {read} read", log::status_of(error)),
         };
         let text = format!("{name}: {what}, {}", call.took());
-        self.log.report(call, EventKind::Call, error.map(Error::kind), &text);
-    }
-}
-
-/// The status that `kmip_call` has for it.
-fn status_of(error: Option<&Error>) -> u8 {
-    match error {
-        None => 0,
-        Some(Error::OutOfMemory(_)) => 5,
-        Some(error) if error.is_lost() => 3,
-        Some(_) => 1,
+        self.log.report(call, EventKind::Call, error, &text);
     }
 }
 
@@ -454,7 +465,7 @@ impl<T: Read + Write> Wire<T> {
         };
         self.stream = None;
         let text = format!("{}: the call is made again", error.details().text());
-        self.log.report(call, EventKind::Repeated, Some(error.kind()), &text);
+        self.log.report(call, EventKind::Repeated, Some(&error), &text);
         self.response(call, request, limit, &mut is_sent)
     }
 

@@ -139,6 +139,10 @@ impl Error {
         Error::ConfigurationError(Details::new(text, false))
     }
 
+    pub(crate) fn pool_is_closed() -> Error {
+        Error::configuration("the pool is closed")
+    }
+
     #[cfg(feature = "openssl")]
     pub(crate) fn connect(text: impl Into<String>) -> Error {
         Error::ConnectError(Details::new(text, true))

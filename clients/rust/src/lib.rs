@@ -20,9 +20,15 @@
 //! let signature = client.sign(&private_key, b"to be signed")?.signature_data;
 //! # let _ = signature; Ok(()) }
 //! ```
+//!
+//! Three more features stand on the crates of their names: `r2d2` brings `Manager`, for a pool of
+//! that crate; `tokio` brings `AsyncClient` and `AsyncPool`, whose calls are awaited and take a
+//! thread each; with `tracing` that crate is told of each [`Event`].
 #![warn(missing_docs)]
 
 mod answer;
+#[cfg(feature = "tokio")]
+mod asynchronous;
 mod batch;
 mod calls;
 mod client;
@@ -32,6 +38,8 @@ mod json;
 mod keys;
 pub mod library;
 mod log;
+#[cfg(feature = "r2d2")]
+mod manager;
 mod names;
 mod options;
 mod payload;
@@ -43,6 +51,8 @@ mod tls;
 mod word;
 
 pub use answer::Answer;
+#[cfg(feature = "tokio")]
+pub use asynchronous::{AsyncClient, AsyncPool};
 pub use batch::{Batch, BatchErrorContinuationOption};
 pub use client::{Client, ClientBuilder, Options, DEFAULT_LIMIT};
 pub use error::{Details, Error, Result};
@@ -50,6 +60,8 @@ pub use item::{Item, Value};
 pub use json::{Json, Text};
 pub use keys::SecretDataType;
 pub use log::{Event, EventKind};
+#[cfg(feature = "r2d2")]
+pub use manager::Manager;
 pub use names::{
     CryptographicAlgorithm, CryptographicUsageMask, HashingAlgorithm, KeyFormatType, NotInTable,
     ObjectType, PaddingMethod, RevocationReasonCode, State,

@@ -1,4 +1,5 @@
 //! What a client tells of its calls.
+use crate::error::Error;
 use std::fmt::{self, Display, Formatter};
 use std::time::{Duration, Instant};
 
@@ -65,22 +66,64 @@ impl<'a> Begun<'a> {
     }
 }
 
+/// The status that `kmip_call` has for it.
+pub(crate) fn status_of(error: Option<&Error>) -> u8 {
+    match error {
+        None => 0,
+        Some(Error::OutOfMemory(_)) => 5,
+        Some(error) if error.is_lost() => 3,
+        Some(_) => 1,
+    }
+}
+
 impl Log {
     pub(crate) fn report(
         &mut self,
         call: Begun<'_>,
         kind: EventKind,
-        error: Option<&'static str>,
+        error: Option<&Error>,
         text: &str,
     ) {
+        #[cfg(feature = "tracing")]
+        trace(call, kind, error, self.server.as_deref());
         let Some(listener) = &mut self.listener else { return };
         let server = self.server.as_deref().map_or(String::new(), |name| format!("{name}: "));
         listener(&Event {
             kind,
             operation: call.operation,
-            error,
+            error: error.map(Error::kind),
             elapsed: call.begun.elapsed(),
             text: server + text,
         });
+    }
+}
+
+/// Tells `tracing` of an event, in the words of this crate alone: the text of an error may repeat
+/// what the server said.
+#[cfg(feature = "tracing")]
+fn trace(call: Begun<'_>, kind: EventKind, error: Option<&Error>, server: Option<&str>) {
+    macro_rules! tell {
+        ($level:ident, $($more:tt)+) => {
+            tracing::$level!(
+                target: "metsuwan",
+                operation = call.operation,
+                server,
+                error = error.map(Error::kind),
+                elapsed_ms = call.begun.elapsed().as_secs_f64() * 1000.0,
+                $($more)+
+            )
+        };
+    }
+    let status = status_of(error);
+    match (kind, error) {
+        (EventKind::Call, None) => tell!(debug, status, "the call is answered"),
+        (EventKind::Call, Some(error)) => {
+            let response = error.details().response();
+            tell!(warn, status, response, "the call is not answered")
+        }
+        (EventKind::Repeated, _) => {
+            tell!(warn, "the connection was lost, and the call is made again")
+        }
+        (EventKind::Reopened, _) => tell!(info, "the connection was lost, and is opened again"),
     }
 }

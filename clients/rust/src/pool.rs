@@ -55,6 +55,12 @@ impl<T> Pool<T> {
         self.state.lock().unwrap_or_else(PoisonError::into_inner)
     }
 
+    /// How many connections there are at most.
+    #[cfg(feature = "tokio")]
+    pub(crate) fn size(&self) -> usize {
+        self.size
+    }
+
     /// Ends the connections that nobody uses, and each other when it is given back. Threads that
     /// wait for one get the error.
     pub fn close(&self) {
@@ -95,7 +101,7 @@ impl<T: Read + Write> Pool<T> {
             state = self.given_back.wait(state).unwrap_or_else(PoisonError::into_inner);
         }
         if state.is_closed {
-            return Err(Error::configuration("the pool is closed"));
+            return Err(Error::pool_is_closed());
         }
         state.used += 1;
         let free = state.free.pop();

@@ -483,3 +483,55 @@ fn threads_share_a_pool() {
         assert!(matches!(pool.client(), Err(Error::ConnectError(_))));
     }
 }
+
+/// What the optional features make of TLS; tests/live/features.sh runs these.
+mod features {
+    #[allow(unused_imports)] // each feature has its own
+    use super::*;
+
+    #[test]
+    #[ignore = "it needs the fake servers"]
+    #[cfg(feature = "r2d2")]
+    fn one_that_the_server_has_ended_is_not_given_out() {
+        let opened = Arc::new(Mutex::new(0));
+        let (server, count) = (connector("end_after", "localhost", "client"), Arc::clone(&opened));
+        let manager = metsuwan::Manager::new(move || {
+            *count.lock().unwrap() += 1;
+            Ok(server.connect()?.build())
+        });
+        let pool = r2d2::Pool::builder().max_size(1).build(manager).unwrap();
+        for _ in 0..3 {
+            pool.get().unwrap().query().unwrap();
+        }
+        assert_eq!(*opened.lock().unwrap(), 3);
+    }
+
+    #[test]
+    #[ignore = "it needs the fake servers"]
+    #[cfg(feature = "tokio")]
+    fn tasks_get_their_own_answers() {
+        let signs = |at: usize| {
+            move |client: &TlsClient| {
+                let signed = client.sign(&format!("k{at}"), b"x")?;
+                assert_eq!(signed.signature_data, format!("signature by k{at}").as_bytes());
+                Ok(())
+            }
+        };
+        let server = connector("good", "localhost", "client");
+        let runtime = tokio::runtime::Builder::new_current_thread().build().unwrap();
+        runtime.block_on(async {
+            let other = server.clone();
+            let client = metsuwan::AsyncClient::open(move || Ok(other.connect()?.build()));
+            let client = client.await.unwrap();
+            let pool = Pool::new(2, move || Ok(server.connect()?.build())).unwrap();
+            let pool = metsuwan::AsyncPool::new(pool);
+            let calls = (0..40).map(|at| match at % 2 {
+                0 => tokio::spawn(client.call(signs(at))),
+                _ => tokio::spawn(pool.call(signs(at))),
+            });
+            for call in calls.collect::<Vec<_>>() {
+                call.await.unwrap().unwrap();
+            }
+        });
+    }
+}

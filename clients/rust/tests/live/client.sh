@@ -20,8 +20,29 @@ cargo_of_copy() { # COMMAND WORD..
             --config 'source.crates-io.replace-with="debian"' --config "source.debian.directory=\"$crates\"" "${@:2}")
 }
 
+# Whether the crate of an optional feature is here: client_needs does not want these.
+has_crate() { # FEATURE
+    compgen -G "$crates/$1-[0-9]*" >/dev/null
+}
+
+# The features that can be built here, as cargo takes them.
+features_here() {
+    local feature all=openssl
+    for feature in r2d2 tokio tracing; do
+        if has_crate "$feature"; then all+=,$feature; fi
+    done
+    printf '%s\n' "$all"
+}
+
 client_build() {
-    cp -r "$top/clients/rust" "$run/rust/source" && cargo_of_copy build --release --features openssl --examples
+    local feature
+    cp -r "$top/clients/rust" "$run/rust/source" || return
+    # cargo wants the crates of all features, also of those that nobody asks for.
+    for feature in r2d2 tokio tracing; do
+        has_crate "$feature" ||
+            sed -i "s/^$feature = \\[.*/$feature = []/; /^$feature = {/d" "$run/rust/source/Cargo.toml" || return
+    done
+    cargo_of_copy build --release --features openssl --examples
 }
 
 client_program() { # NAME
