@@ -3,6 +3,7 @@ import asyncio
 import contextlib
 import contextvars
 import inspect
+import textwrap
 import threading
 import unittest
 from typing import Any, Awaitable, Dict, Iterator, List
@@ -12,7 +13,7 @@ from metsuwan import (AsyncClient, AsyncPool, Client, ConnectError, GrammarError
                       ItemNotFound, MissingValue, NotDone, OtherObject, RequestWriteError,
                       ResponseReadError)
 
-from .servers import CERTS, PORTS, client_of
+from .servers import CERTS, LIVE, PORTS, client_of
 
 # What is awaited comes at once, if it comes at all; this is for a busy machine.
 LONG = 60
@@ -281,6 +282,21 @@ class Clients(WithLoop):
                 gate.is_open.set()
                 self.assertEqual(await in_time(sending), [{}])
             self.assertEqual(await batch.send(), [{}, {}])
+
+    async def test_the_example_of_the_readme(self) -> None:
+        readme = (LIVE.parents[1] / 'clients' / 'python' / 'README.md').read_text(encoding='utf-8')
+        example = readme.partition('\n## asyncio\n')[2].partition('```python\n')[2]
+        lines = textwrap.indent(example.partition('```')[0], '    ')
+
+        def pool(host: str, size: int, **settings: str) -> AsyncPool:
+            self.assertEqual((host, {*settings}), ('localhost', {'cert', 'key', 'ca'}))
+            return async_pool('batches', size=size)
+
+        names: Dict[str, Any] = {'AsyncPool': pool, 'key': 'k'}
+        exec('async def example():\n' + lines + '    return signature, activated, signed\n', names)
+        signature, activated, signed = await names['example']()
+        self.assertEqual((signature, activated), (b'signature by k', {}))
+        self.assertEqual(bytes.fromhex(signed['signature_data']), signature)
 
     async def test_a_record_is_told_in_the_context_of_the_call(self) -> None:
         asked: contextvars.ContextVar[str] = contextvars.ContextVar('asked', default='nobody')
