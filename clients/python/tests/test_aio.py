@@ -6,7 +6,7 @@ import inspect
 import textwrap
 import threading
 import unittest
-from typing import Any, Awaitable, Dict, Iterator, List
+from typing import Any, Awaitable, Callable, Dict, Iterator, List
 from unittest import mock
 
 from metsuwan import (AsyncClient, AsyncPool, Client, ConnectError, GrammarError, Item,
@@ -30,6 +30,14 @@ def async_pool(fake: str, **settings: Any) -> AsyncPool:
     return AsyncPool('localhost', PORTS[fake], **{**SETTINGS, **settings})
 
 
+async def until(holds: Callable[[], bool], what: str) -> None:
+    for _ in range(LONG * 100):
+        if holds():
+            return
+        await asyncio.sleep(0.01)
+    raise AssertionError('it does not come: ' + what)
+
+
 class Gate:
     """Holds the threads that come to it, until the loop opens it."""
 
@@ -49,11 +57,7 @@ class Gate:
 
     async def has(self, count: int) -> None:
         """Waits until so many have come."""
-        for _ in range(LONG * 100):
-            if len(self.came) >= count:
-                return
-            await asyncio.sleep(0.01)
-        raise AssertionError('%s came, and not %d' % (self.came, count))
+        await until(lambda: len(self.came) >= count, '%d come to the gate' % count)
 
 
 @contextlib.contextmanager
@@ -249,13 +253,24 @@ class Clients(WithLoop):
 
     async def test_an_opening_that_is_cancelled_leaves_no_connection(self) -> None:
         kmip = async_client('good')
-        with held('_opened') as gate:
+        with held('_opened') as gate, mock.patch.object(Client, 'close', autospec=True,
+                                                        side_effect=Client.close) as close:
             opening = asyncio.ensure_future(kmip.open())
             await gate.has(1)
             await cancelled(opening)
             gate.is_open.set()
-            await in_time(kmip.close())
+            await until(lambda: close.called, 'the client is closed')
+        await in_time(kmip.close())
         self.assertFalse(kmip._ready().is_open)
+
+    async def test_an_opening_that_fails_leaves_no_thread(self) -> None:
+        kmip = async_client('wrong_host')
+        with held('_opened') as gate:
+            gate.is_open.set()
+            with self.assertRaises(ConnectError):
+                await kmip.open()
+        await until(lambda: gate.came[0] not in {it.ident for it in threading.enumerate()},
+                    'the thread has ended')
 
     async def test_a_batch(self) -> None:
         async with async_client('batches') as kmip:
@@ -274,7 +289,7 @@ class Clients(WithLoop):
 
     async def test_a_batch_has_the_calls_that_were_added_before_it_was_sent(self) -> None:
         async with async_client('batches') as kmip:
-            with held('_response') as gate:
+            with held('_send') as gate:
                 batch = kmip.batch().call('activate', 'a')
                 sending = asyncio.ensure_future(batch.send())
                 await gate.has(1)
