@@ -33,6 +33,8 @@ def _awaited(method: Callable[Concatenate[Client, P], R]
     @functools.wraps(method)
     async def call(kmip: AsyncClient, /, *words: P.args, **options: P.kwargs) -> R:
         return await kmip._made(functools.partial(method, kmip._ready(), *words, **options))
+
+    call.__qualname__ = 'AsyncClient.' + method.__name__
     return call
 
 
@@ -88,7 +90,7 @@ class AsyncClient:
         self._new = functools.partial(Client, *words, **settings)
         self._client: Optional[Client] = None
         self._thread = ThreadPoolExecutor(1, 'metsuwan')
-        self._calls: List[Future[Any]] = []     # those that may not have ended
+        self._calls: List[Future[Any]] = []
         self._closing: Optional[Future[None]] = None
 
     async def __aenter__(self) -> AsyncClient:
@@ -150,8 +152,17 @@ class AsyncClient:
             raise RequestWriteError('the connection is closed; nothing was sent')
         context = contextvars.copy_context()
         future = self._thread.submit(lambda: context.run(call))
-        self._calls = [it for it in self._calls if not it.done()] + [future]
-        return await asyncio.wrap_future(future)
+        self._calls.append(future)
+        try:
+            return await asyncio.wrap_future(future)
+        finally:
+            self._forget()
+            if not future.done():   # the wait was cancelled, and the call goes on
+                _after(future, self._forget)
+
+    def _forget(self) -> None:
+        """Keeps no call that has ended: its answer may be a key."""
+        self._calls = [it for it in self._calls if not it.done()]
 
     def _last(self) -> Optional[Future[Any]]:
         """A call that has not ended, behind all others; None where all have."""

@@ -112,6 +112,7 @@ class Clients(WithLoop):
                 self.assertEqual(inspect.iscoroutinefunction(same), name != 'batch')
                 given, wanted = inspect.signature(same), inspect.signature(method)
                 self.assertEqual(given.parameters, wanted.parameters)
+                self.assertEqual(same.__qualname__, 'AsyncClient.' + name)
                 self.assertTrue(same.__doc__)
 
     async def test_values_are_those_of_a_client(self) -> None:
@@ -235,6 +236,18 @@ class Clients(WithLoop):
                 self.assertEqual(len(gate.came), 1)
                 gate.is_open.set()
                 self.assertEqual((await in_time(second)).unique_identifier, 'second')
+
+    async def test_no_answer_is_kept(self) -> None:
+        async with async_client('good') as kmip:
+            await kmip.query()
+            self.assertEqual(kmip._calls, [])
+            with held('_response') as gate:
+                call = asyncio.ensure_future(kmip.query())
+                await gate.has(1)
+                await cancelled(call)
+                self.assertEqual(len(kmip._calls), 1)
+                gate.is_open.set()
+                await until(lambda: kmip._calls == [], 'it is forgotten')
 
     async def test_closing_waits_for_a_call_and_is_done_where_it_is_cancelled(self) -> None:
         kmip = await async_client('good').open()
