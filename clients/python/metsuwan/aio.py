@@ -207,9 +207,9 @@ class AsyncClient:
 
 
 class AsyncPool:
-    """Clients of one server, which the tasks of a loop share, as ``Pool``: up to ``size`` calls are
-    made at once, each in a thread. A task that wants a client more waits, in the order of asking,
-    and occupies no thread.
+    """Clients of one server, which the tasks of one loop share, as ``Pool``: up to ``size`` calls
+    are made at once, each in a thread. A task that wants a client more waits, in the order of
+    asking, and occupies no thread.
 
     The words are those of ``Client``. A connection is opened when it is first wanted, and one that
     a call has lost is not used again. Where a call was cancelled, its task goes on, and its client
