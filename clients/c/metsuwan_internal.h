@@ -50,6 +50,15 @@ static inline void kmip_number_into(uint8_t *at, uint32_t number) {
         at[i] = (uint8_t)(number >> (24 - 8 * i));
 }
 
+/* The bytes of the head of a response, and of the whole, where the head announces so many more;
+   false where a size_t is too small for it, as one of 32 bits may be. */
+#define KMIP_HEAD 8
+static inline bool kmip_response_len(uint64_t more, size_t *length) {
+    if (more > SIZE_MAX - KMIP_HEAD) return false;
+    *length = KMIP_HEAD + (size_t)more;
+    return true;
+}
+
 /* A TLS connection, of which each use has to end by a deadline. */
 typedef struct kmip_wire kmip_wire;
 

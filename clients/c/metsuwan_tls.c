@@ -11,7 +11,6 @@
 #include <string.h>
 #include <unistd.h>
 
-#define HEAD 8
 #define PIECE 65536
 
 static const uint8_t *bytes_of(const char *text) {
@@ -386,7 +385,7 @@ int kmip_read_answer(kmip_client *client) {
    there is room for twice what did. */
 static int read_rest(kmip_client *client, size_t length) {
     kmip_wire *wire = client->wire;
-    for (size_t done = HEAD, next; done < length; done = next) {
+    for (size_t done = KMIP_HEAD, next; done < length; done = next) {
         next = done < PIECE ? PIECE : done > SIZE_MAX / 2 ? length : 2 * done;
         if (next > length) next = length;
         if (!kmip_room_has(&client->response, next)) return kmip_out_of_memory(client);
@@ -399,9 +398,9 @@ static int read_rest(kmip_client *client, size_t length) {
 /* Reads a response: KMIP_ANSWERED, or the status of what went wrong. */
 static int read_response(kmip_client *client) {
     kmip_wire *wire = client->wire;
-    if (!kmip_wire_read(wire, client->response.bytes, HEAD))
+    if (!kmip_wire_read(wire, client->response.bytes, KMIP_HEAD))
         return wire_fails(client, "ResponseReadError", "");
-    int64_t more = kmip_contents_len(client->response.bytes, HEAD, client->limit);
+    int64_t more = kmip_contents_len(client->response.bytes, KMIP_HEAD, client->limit);
     if (more == KMIP_LENGTH_LIMIT) {
         char text[80];
         snprintf(text, sizeof text, "the response is longer than the limit of %u bytes",
@@ -409,8 +408,8 @@ static int read_response(kmip_client *client) {
         return kmip_fails_as(client, KMIP_LOST, "DeserializeError", text);
     }
     if (more < 0) return kmip_fails_as(client, KMIP_LOST, "DeserializeError", "not a structure");
-    if ((uint64_t)more > SIZE_MAX - HEAD) return kmip_out_of_memory(client);
-    size_t length = HEAD + (size_t)more;
+    size_t length;
+    if (!kmip_response_len((uint64_t)more, &length)) return kmip_out_of_memory(client);
     int status = read_rest(client, length);
     if (status != KMIP_ANSWERED) return status;
     client->response_len = length;

@@ -7,6 +7,7 @@
         kmip.activate(pair.private_key)
         signature = kmip.sign(pair.private_key, b'to be signed').signature_data
 """
+from .aio import AsyncBatch, AsyncClient, AsyncPool
 from .batch import Batch
 from .client import Client
 from .errors import (ConnectError, ConnectionLost, DeserializeError, GrammarError, InternalError,
@@ -20,8 +21,9 @@ from .pool import Pool
 __version__ = '2.0'
 
 __all__ = [
-    'Batch', 'Client', 'ConnectError', 'ConnectionLost', 'DeserializeError', 'GrammarError',
-    'InternalError', 'Item', 'ItemNotFound', 'KeyPair', 'KmipError', 'LibraryError',
-    'ManagedObject', 'MissingValue', 'NotDone', 'NotRecorded', 'OtherObject', 'Pool', 'Reason',
-    'Refused', 'RequestWriteError', 'ResponseReadError', 'SerializeError', 'ServerError', 'Signed',
+    'AsyncBatch', 'AsyncClient', 'AsyncPool', 'Batch', 'Client', 'ConnectError', 'ConnectionLost',
+    'DeserializeError', 'GrammarError', 'InternalError', 'Item', 'ItemNotFound', 'KeyPair',
+    'KmipError', 'LibraryError', 'ManagedObject', 'MissingValue', 'NotDone', 'NotRecorded',
+    'OtherObject', 'Pool', 'Reason', 'Refused', 'RequestWriteError', 'ResponseReadError',
+    'SerializeError', 'ServerError', 'Signed',
 ]

@@ -4,7 +4,9 @@ from __future__ import annotations
 
 import json
 import struct
-from typing import TYPE_CHECKING, Any, Dict, Iterator, List, Mapping, Optional, Tuple, Union
+from functools import partial
+from typing import (TYPE_CHECKING, Any, Callable, Dict, Iterator, List, Mapping, Optional, Tuple,
+                    TypeVar, Union)
 
 from .calls import Option, Word, call_of
 from .errors import DeserializeError, GrammarError, KmipError, NotDone, OtherObject
@@ -15,6 +17,7 @@ if TYPE_CHECKING:
     from .client import Client, Payload
 
 Answer = Union[Dict[str, Any], Item, KmipError]
+Self = TypeVar('Self', bound='Calls')
 HEAD = 8
 STRUCTURE, INTEGER, ENUMERATION, BYTES = 1, 2, 5, 8
 HEADER, BATCH_COUNT, CONTINUATION, BATCH_ITEM = 0x420077, 0x42000D, 0x42000E, 0x42000F
@@ -140,15 +143,8 @@ def responses_of(message: bytes, ids: List[bytes], on_error: int) -> List[bytes]
     return found
 
 
-class Batch:
-    """Calls that are made in one message, in their order.
-
-        batch = kmip.batch(on_error='Stop')
-        batch.call('activate', key).call('sign', key, data).operation('MAC', [..])
-        activated, signed, mac = batch.send()
-
-    What goes wrong with one call stands in the place of its answer, and is not raised.
-    """
+class Calls:
+    """Calls that are collected, to be made in one message."""
 
     def __init__(self, client: 'Client', on_error: str) -> None:
         if on_error not in OPTIONS:
@@ -156,14 +152,14 @@ class Batch:
         self._client, self._on_error = client, OPTIONS[on_error]
         self._calls: List[Call] = []
 
-    def call(self, name: str, /, *words: Word, **options: Option) -> 'Batch':
+    def call(self: Self, name: str, /, *words: Word, **options: Option) -> Self:
         """Adds a call of words, as ``Client.call``.
 
         :raises GrammarError: it is none
         """
         return self._add(call_of(name, words, options))
 
-    def operation(self, name: str, payload: 'Payload', *, version: str = '1.2') -> 'Batch':
+    def operation(self: Self, name: str, payload: 'Payload', *, version: str = '1.2') -> Self:
         """Adds a call of any operation, as ``Client.operation``.
 
         :raises GrammarError: it is none
@@ -176,10 +172,27 @@ class Batch:
         except UnicodeEncodeError:
             raise GrammarError('the operation, the version or the payload is not UTF-8') from None
 
-    def _add(self, call: Call) -> 'Batch':
+    def _add(self: Self, call: Call) -> Self:
         self._client._check(call)
         self._calls.append(call)
         return self
+
+    def _sending(self) -> Callable[[], List[Answer]]:
+        """What makes the calls that were added so far."""
+        if not self._calls:
+            raise GrammarError('the batch has no calls')
+        return partial(self._client._send, list(self._calls), self._on_error)
+
+
+class Batch(Calls):
+    """Calls that are made in one message, in their order.
+
+        batch = kmip.batch(on_error='Stop')
+        batch.call('activate', key).call('sign', key, data).operation('MAC', [..])
+        activated, signed, mac = batch.send()
+
+    What goes wrong with one call stands in the place of its answer, and is not raised.
+    """
 
     def send(self) -> List[Answer]:
         """Makes the calls, and returns of each its answer, as the single call has it, or its error:
@@ -188,9 +201,7 @@ class Batch:
         :raises ConnectionLost: the connection is lost; of no call it is known whether it was done
         :raises GrammarError: there are no calls
         """
-        if not self._calls:
-            raise GrammarError('the batch has no calls')
-        return self._client._send(self._calls, self._on_error)
+        return self._sending()()
 
 
 def not_done() -> NotDone:

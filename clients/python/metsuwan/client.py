@@ -496,7 +496,7 @@ class Client(Operations):
             return [Item.of_json(item) for item in answer['value'] if item['tag'] == 'Attribute']
         return list(value_at(answer, 'attributes'))
 
-    def locate(self, *name: str, **attributes: Option) -> List[str]:
+    def locate(self, /, *name: str, **attributes: Option) -> List[str]:
         """The identifiers of the objects with this name, or with all of these attributes, as
         ``locate(name='issuing', state='Active')``; of all objects, where nothing is given. There
         may be none. An attribute that is None is an error, since more objects would be found."""
