@@ -15,7 +15,7 @@ kmip_read_key() { # private|public FILE
     ! grep -q -e ENCRYPTED -- "$2" || return
     KMIP_WORDS=("the PEM has no $1 key")
     case $1.${blocks[0]} in
-    'private.PRIVATE KEY' | 'private.RSA PRIVATE KEY' | 'private.EC PRIVATE KEY') form=PKCS8 ;;
+    'private.PRIVATE KEY' | 'private.RSA PRIVATE KEY' | 'private.EC PRIVATE KEY' | 'private.DSA PRIVATE KEY') form=PKCS8 ;;
     'public.PUBLIC KEY' | 'public.RSA PUBLIC KEY') form=X509 flags=(-pubin) ;;
     *) return 1 ;;
     esac
@@ -24,6 +24,7 @@ kmip_read_key() { # private|public FILE
     KMIP_WORDS=('KMIP 1.2 has no name for the algorithm of the key')
     case $bits in
     *$'\n''ASN1 OID: '* | *$'\n''NIST CURVE: '*) algorithm=ECDSA ;;
+    *$'\n''pub:'*$'\n''Q:'*) algorithm=DSA ;;
     [Mm]odulus:* | *$'\n'[Mm]odulus:*) algorithm=RSA ;;
     *) return 1 ;;
     esac

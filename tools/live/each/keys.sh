@@ -3,8 +3,9 @@
 if [[ $client == openssl ]]; then return; fi
 fake keeper
 export LC_ALL=C
+openssl dsaparam -out dsa.parameters 1024 2>"$said"
 for kind in 'rsa:genrsa 2048' 'rsa1:genrsa -traditional 2048' 'ec:ecparam -name prime256v1 -genkey' \
-    'p384:genpkey -algorithm EC -pkeyopt ec_paramgen_curve:P-384' 'ed:genpkey -algorithm ED25519'; do
+    'p384:genpkey -algorithm EC -pkeyopt ec_paramgen_curve:P-384' 'dsa:gendsa dsa.parameters' 'ed:genpkey -algorithm ED25519'; do
     read -ra words <<<"${kind#*:}"
     openssl "${words[@]}" >"${kind%%:*}.key" 2>"$said" && openssl pkey -in "${kind%%:*}.key" -pubout >"${kind%%:*}.pub" 2>"$said"
 done
@@ -17,7 +18,7 @@ same() { # WHAT PEM FLAG..: what is got as PEM is this key
         [[ $(openssl pkey "${@:3}" -in got.pem -pubout 2>>"$said") == "$(<"$2")" ]]
     verdict "$1"
 }
-for kind in rsa rsa1 ec p384; do
+for kind in rsa rsa1 ec p384 dsa; do
     registered "of $kind" register-private "$kind.key" "name=$kind" usage=Sign
     same "and got as PEM: the private key $kind" "$kind.pub"
     registered "of $kind" register-public "$kind.pub"
