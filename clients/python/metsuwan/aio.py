@@ -43,11 +43,11 @@ def _after(future: Future[Any], function: Callable[[], object]) -> None:
     by then."""
     loop = asyncio.get_running_loop()
 
-    def tell(_: Future[Any]) -> None:
+    def announce(_: Future[Any]) -> None:
         with contextlib.suppress(RuntimeError):
             loop.call_soon_threadsafe(function)
 
-    future.add_done_callback(tell)
+    future.add_done_callback(announce)
 
 
 class AsyncBatch(Calls):
@@ -162,11 +162,11 @@ class AsyncClient:
 
     def _forget(self) -> None:
         """Keeps no call that has ended: its answer may be a key."""
-        self._calls = [it for it in self._calls if not it.done()]
+        self._calls = [future for future in self._calls if not future.done()]
 
     def _last(self) -> Optional[Future[Any]]:
         """A call that has not ended, behind all others; None where all have."""
-        return next((it for it in reversed(self._calls) if not it.done()), None)
+        return next((future for future in reversed(self._calls) if not future.done()), None)
 
     def batch(self, *, on_error: str = 'Continue') -> AsyncBatch:
         """A batch, as of ``Client``: calls are added to it at once, and its sending is awaited."""

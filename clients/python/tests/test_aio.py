@@ -193,7 +193,7 @@ class Clients(WithLoop):
                 self.assertEqual(len(gate.came), 1)
                 gate.is_open.set()
                 signed = await in_time(calls)
-        self.assertEqual([it.unique_identifier for it in signed], names)
+        self.assertEqual([answer.unique_identifier for answer in signed], names)
         self.assertEqual(gate.most, 1)
         self.assertEqual(len(set(gate.came)), 1)
         self.assertNotIn(threading.get_ident(), gate.came)
@@ -282,7 +282,7 @@ class Clients(WithLoop):
             gate.is_open.set()
             with self.assertRaises(ConnectError):
                 await kmip.open()
-        await until(lambda: gate.came[0] not in {it.ident for it in threading.enumerate()},
+        await until(lambda: gate.came[0] not in {thread.ident for thread in threading.enumerate()},
                     'the thread has ended')
 
     async def test_a_batch(self) -> None:

@@ -102,7 +102,7 @@ impl Log {
 /// what the server said.
 #[cfg(feature = "tracing")]
 fn trace(call: Begun<'_>, kind: EventKind, error: Option<&Error>, server: Option<&str>) {
-    macro_rules! tell {
+    macro_rules! event {
         ($level:ident, $($more:tt)+) => {
             tracing::$level!(
                 target: "metsuwan",
@@ -116,14 +116,14 @@ fn trace(call: Begun<'_>, kind: EventKind, error: Option<&Error>, server: Option
     }
     let status = status_of(error);
     match (kind, error) {
-        (EventKind::Call, None) => tell!(debug, status, "the call is answered"),
+        (EventKind::Call, None) => event!(debug, status, "the call is answered"),
         (EventKind::Call, Some(error)) => {
             let response = error.details().response();
-            tell!(warn, status, response, "the call is not answered")
+            event!(warn, status, response, "the call is not answered")
         }
         (EventKind::Repeated, _) => {
-            tell!(warn, "the connection was lost, and the call is made again")
+            event!(warn, "the connection was lost, and the call is made again")
         }
-        (EventKind::Reopened, _) => tell!(info, "the connection was lost, and is opened again"),
+        (EventKind::Reopened, _) => event!(info, "the connection was lost, and is opened again"),
     }
 }
