@@ -306,7 +306,8 @@ static int wrong_call(kmip_client *client) {
         size_t room = client->request.room - 1;
         int64_t length = write_refusal(client, room);
         if (length == KMIP_LENGTH_ABSENT)
-            return kmip_fails_as(client, KMIP_CALL_GRAMMAR, "GrammarError", "the words are no call");
+            return kmip_fails_as(client, KMIP_CALL_GRAMMAR, "GrammarError",
+                                 "the words are no call");
         if (length < 0) return kmip_out_of_memory(client);
         if ((uint64_t)length <= room) {
             for (int64_t i = 0; i < length; i++)
