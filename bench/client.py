@@ -1,7 +1,7 @@
 #!/usr/bin/env python3
 """Times the client beside one by hand in Rust without proofs, in turn, by processor time.
 
-usage: bench/client.py [ROUNDS]      each program is run so many times, 11 if it is left out
+usage: bench/client.py [--proved] [ROUNDS]      each program is run so many times, 11 if it is left out
 
 It prints a line for each of three things that both do, with the least and the median of the rounds and their ratios, of
 which a smaller one is faster here:
@@ -9,8 +9,9 @@ which a smaller one is faster here:
   small      400,000 calls over a link that was fed before: the client alone
   large      9 responses of 16 MiB: read into their place, checked, and copied to the payload
 
-Both are optimized. Ours is built without proof by tools/build.py with the inline hints of a proved build, and the
-plain one from bench/client/plain.rs. Wants `rt`, `rustc` and some 600 MB of memory; writes nothing into the repository.
+Both are optimized. Ours is built by tools/build.py: with --proved as users run it, over what `rt ci` kept on this machine
+(it proves what is lacking), else without proof and with the inline hints of a proved build. The plain one is made from
+bench/client/plain.rs. Wants `rt`, `rustc` and some 600 MB of memory; writes nothing into the repository.
 """
 import os
 import resource
@@ -73,20 +74,23 @@ def response_to(data):
     return response(0x25, [octets(0x4200C2, data)], header)
 
 
-def build(work):
+def build(work, how):
     """The three programs: ours for `make`, ours for calls alone, and the plain one."""
     os.makedirs(f'{work}/top/crates/client_bench/src')
     for name in os.listdir(f'{TOP}/crates'):
         shutil.copytree(f'{TOP}/crates/{name}', f'{work}/top/crates/{name}', ignore=shutil.ignore_patterns('out', 'must-fail'))
     with open(f'{work}/top/crates/client_bench/src/main.rt', 'w', encoding='utf-8') as out:
         out.write(CALLS)
+    with open(f'{work}/top/crates/client_bench/stdout', 'w', encoding='utf-8') as out:
+        out.write('0\n')  # what it writes of no responses
+    shutil.copy(f'{TOP}/HANDLES', f'{work}/top')
     with open(f'{TOP}/crates.txt', encoding='utf-8') as rows, open(f'{work}/top/crates.txt', 'w', encoding='utf-8') as out:
         for row in rows:
             out.write(row)
             if row.startswith('kmip_client:'):
                 out.write('client_bench: kmip_client' + row.partition(':')[2])
     for crate in ('kmip_run', 'client_bench'):
-        subprocess.run([sys.executable, f'{TOP}/tools/build.py', '--unproved', 'program', crate, f'{work}/{crate}', f'{work}/top'],
+        subprocess.run([sys.executable, f'{TOP}/tools/build.py', how, 'program', crate, f'{work}/{crate}', f'{work}/top'],
                        check=True, stdout=subprocess.DEVNULL, stderr=subprocess.DEVNULL)
     subprocess.run(['rustc', '--edition', '2021', '-O', '-o', f'{work}/plain', f'{HERE}/client/plain.rs'], check=True)
 
@@ -114,10 +118,12 @@ def compare(name, ours, plain, feed, rounds):
 
 
 def main():
-    rounds = int(sys.argv[1]) if len(sys.argv) > 1 else 11
+    how = '--proved' if '--proved' in sys.argv[1:] else '--unproved'
+    rounds = [int(word) for word in sys.argv[1:] if word != '--proved']
+    rounds = rounds[0] if rounds else 11
     work = tempfile.mkdtemp(prefix='client-bench-')
     try:
-        build(work)
+        build(work, how)
         feeds = {'none': b'', 'small': response_to(bytes.fromhex('deadbeef')), 'large': response_to(bytes(LARGE))}
         for name, value in feeds.items():
             with open(f'{work}/{name}.bin', 'wb') as out:

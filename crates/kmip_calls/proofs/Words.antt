@@ -7,7 +7,7 @@ use Rattle.std.proofs.lemmas.Str.{is_utf8-from_IsUtf8}
 use Rattle.kmip_request_words.proofs.Utf8.{not_utf8}
 use Rattle.kmip_request_words.specs.Attributes.{then_more}
 use Rattle.kmip_calls.specs.Places.{may_be_option}
-use Rattle.kmip_calls.specs.Written.{data_word, text_written, word_written, words_from, words_of, name_text}
+use Rattle.kmip_calls.specs.Written.{text_written, word_written, words_from, words_of, name_text}
 use Rattle.kmip_calls.specs.declared.written.Word.{Word}
 
 -- words before those that may come
@@ -63,10 +63,6 @@ all_written f words i front past =
 
 -- ---- a word
 
-pub of_data : (is_option : Bool) (word : Word) → word.is_data ≡ true →
-    word_written is_option word ≡ Some (data_word word.bytes.now)
-of_data is_option word is = rw is refl
-
 pub of_text : (is_option : Bool) (word : Word) → word.is_data ≡ false → IsUtf8 word.bytes.now →
     word_written is_option word ≡ Some (text_written is_option word.bytes.now)
 of_text is_option word is utf8 = rw (is, is_utf8-from_IsUtf8 word.bytes.now utf8) refl
@@ -74,9 +70,6 @@ of_text is_option word is utf8 = rw (is, is_utf8-from_IsUtf8 word.bytes.now utf8
 pub of_no_text : (is_option : Bool) (word : Word) → word.is_data ≡ false →
     (IsUtf8 word.bytes.now → ⊥) → word_written is_option word ≡ None
 of_no_text is_option word is not = rw (is, not_utf8 word.bytes.now not) refl
-
-pub name_of_data : (name : Word) → name.is_data ≡ true → name_text name ≡ None
-name_of_data name is = rw is refl
 
 pub name_of_text : (name : Word) → name.is_data ≡ false → IsUtf8 name.bytes.now →
     name_text name ≡ Some name.bytes.now

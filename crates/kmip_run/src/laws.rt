@@ -157,9 +157,9 @@ pub fn traffic_of_sessions_is_reported(
 
 /// A file of records, as kmip_call writes them, replays each call over the response that was
 /// recorded with it, and leaves no byte to the next call. The call's outcome, shown as a line of
-/// JSON, is then the line that kmip_call writes of this response under the same limit. Where a
-/// record has `raw` in place of a call's words, it has the outcome of that call, since it asks for
-/// the same request.
+/// JSON, is then the line of the typed reading of this response under the same limit: what
+/// kmip_call wrote, but where it answered a tree. Where a record has `raw` in place of a call's
+/// words, it has the outcome of that call, since it asks for the same request.
 ///
 /// The premise `AreRecords` holds of what kmip_call records: a line without a line feed, from which
 /// a script reads the call and the response (its law `records_read_back`), and a response of one
