@@ -143,7 +143,9 @@ pub fn call<L: Link, R: CallRequest>(
         Ok(()) => {}
         Err(error) => return Err(error),
     }
-    diagnostics.request = diagnostic_for(alloc, &settings.config, room.request.as_slice())?;
+    if settings.config.has_buf() {
+        diagnostics.request = diagnostic_for(alloc, &settings.config, room.request.as_slice())?;
+    }
     room.taken.reserve_exact(FIRST_ROOM)?;
     let answer = exchange(
         alloc,
@@ -153,6 +155,9 @@ pub fn call<L: Link, R: CallRequest>(
         room.request.as_slice(),
         &mut room.taken,
     );
+    if !settings.config.has_buf() {
+        return answer;
+    }
     if !has_response(&answer) {
         return answer;
     }

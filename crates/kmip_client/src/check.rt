@@ -1,7 +1,7 @@
 //! What a response answers: its bytes are decoded and checked, and its payload is taken out.
-ghost use Rattle.std.specs.Prelude.{◌≡◌, ◌++◌, ◌<◌, IfOk, IfErr, Some, Err, codes, pos, length};
+ghost use Rattle.std.specs.Prelude.{◌≡◌, ◌++◌, ◌<◌, IfOk, IfErr, Some, Ok, Err, codes, pos, length};
 ghost use Rattle.std.specs.Ordering.{int_eq};
-ghost use Rattle.kmip_shape.specs.Val.{Text as text_val};
+ghost use Rattle.kmip_shape.specs.Val.{Val, Text as text_val};
 ghost use Rattle.kmip_shape.specs.Writes.{optional};
 ghost use Rattle.kmip_shape.specs.Enumerations.{enumeration_val};
 ghost use Rattle.kmip_enums.specs.Operations.{operation_line};
@@ -13,9 +13,8 @@ ghost use Rattle.kmip_client.specs.Check.{check_response, check_item, is_number,
 ghost use Rattle.kmip_client.specs.Check.{operation_shown, count_text, failed_text, failure};
 ghost use Rattle.kmip_client.specs.Check.{mismatch_text, payload_answer};
 ghost use Rattle.kmip_client.specs.Client.{IsOfOperation};
-ghost use Rattle.kmip_client.specs.Outcome.{Gives, answer_with_payload, read_answer, seen_by};
+ghost use Rattle.kmip_client.specs.Outcome.{Gives, read_answer, seen_by};
 ghost use Rattle.kmip_client.specs.declared.error.Error.TheVariants.{ServerError, InternalError};
-ghost use Rattle.kmip_client.specs.declared.error.Error.TheVariants.{OutOfMemory};
 
 use crate::answered::Answered;
 use crate::error::Error;
@@ -23,7 +22,7 @@ use kmip_enums::{Operation, ResultReason, ResultStatus};
 use kmip_response::{BatchItem, ResponseHeader, ResponseMessage, ResponsePayload};
 use kmip_shape::read::ReadError;
 use kmip_shape::{Enumeration, read_root};
-use kmip_wire::{ItemRef, Text};
+use kmip_wire::{ItemRef, OutOfMemory, Text};
 use std::alloc::Global;
 
 /// Whether a batch item names this operation.
@@ -51,11 +50,11 @@ fn is_not_found(reason: Option<ResultReason>) -> bool
 }
 
 /// The error where there is not one batch item, but this many.
-fn not_single(alloc: Global, count: usize) -> Result<ResponsePayload, Error>
-    ensures { Gives (Err (ServerError (count_text count))) (answer_with_payload result) }
+fn not_single(alloc: Global, count: usize) -> Result<Error, OutOfMemory>
+    ensures { IfOk result (λ error. error ≡ ServerError (count_text count)) }
 {
     let text = format!(in alloc; "Expected one batch item in response but received {count}")?;
-    Err(Error::ServerError(Text::of_string(text)))
+    Ok(Error::ServerError(Text::of_string(text)))
 }
 
 /// The error of a failure, with the server's message.
@@ -64,10 +63,10 @@ fn failure(
     operation: Operation,
     reason: Option<ResultReason>,
     message: &Option<Text>,
-) -> Result<ResponsePayload, Error>
-    ensures { Gives (failure operation
+) -> Result<Error, OutOfMemory>
+    ensures { IfOk result (λ error. Err error ≡ failure operation
         (one_of (optional (enumeration_val result_reason_line) reason))
-        (one_of (optional text_val message.now))) (answer_with_payload result) }
+        (one_of (optional text_val message.now))) }
 {
     let message = match message {
         Some(message) => message.as_str(),
@@ -75,9 +74,9 @@ fn failure(
     };
     let text = Text::of_string(format!(in alloc; "Operation {operation} failed: {message}")?);
     if is_not_found(reason) {
-        Err(Error::ItemNotFound(text))
+        Ok(Error::ItemNotFound(text))
     } else {
-        Err(Error::ServerError(text))
+        Ok(Error::ServerError(text))
     }
 }
 
@@ -86,11 +85,10 @@ fn mismatch(
     alloc: Global,
     answered: Option<Operation>,
     asked: Operation,
-) -> Result<ResponsePayload, Error>
-    ensures { Gives (Err (InternalError
+) -> Result<Error, OutOfMemory>
+    ensures { IfOk result (λ error. error ≡ InternalError
         (mismatch_text asked (operation_shown
-        (one_of (optional (enumeration_val operation_line) answered))))))
-        (answer_with_payload result) }
+        (one_of (optional (enumeration_val operation_line) answered))))) }
 {
     let text = match answered {
         Some(answered) => {
@@ -102,16 +100,24 @@ fn mismatch(
             format!(in alloc; "Response operation None does not match request operation {asked}")?
         }
     };
-    Err(Error::InternalError(Text::of_string(text)))
+    Ok(Error::InternalError(Text::of_string(text)))
 }
 
-/// The payload of a batch item, where there is one.
-fn payload_of(alloc: Global, payload: Option<ResponsePayload>) -> Result<ResponsePayload, Error>
+/// The payload of a batch item, where there is one, as the payload that a call returns.
+fn payload_of<P: Answered>(
+    alloc: Global,
+    operation: Operation,
+    payload: Option<ResponsePayload>,
+) -> Result<P, Error>
+    requires answers { P.Answers operation }
+    requires own { (p : Val) →
+        payload_answer (one_of (optional response_payload_val payload)) ≡ Ok p →
+        IsOfOperation operation p }
     ensures { Gives (payload_answer (one_of (optional response_payload_val payload)))
-        (answer_with_payload result) }
+        (seen_by (P.val operation) result) }
 {
     match payload {
-        Some(payload) => Ok(payload),
+        Some(payload) => Ok(P::of(operation, payload)),
         None => {
             let text = "Unable to process response payload due to wrong deserialized type!";
             Err(Error::InternalError(Text::of(alloc, text)?))
@@ -121,16 +127,21 @@ fn payload_of(alloc: Global, payload: Option<ResponsePayload>) -> Result<Respons
 
 /// What a batch item answers, whose payload is taken out of it.
 #[tactic(auto, unfolding(crate::specs::Check::check_item))]
-fn check_item(
+fn check_item<P: Answered>(
     alloc: Global,
     operation: Operation,
     item: &mut BatchItem,
-) -> Result<ResponsePayload, Error>
-    ensures { Gives (check_item operation (batch_item_val item.old)) (answer_with_payload result) }
+) -> Result<P, Error>
+    requires answers { P.Answers operation }
+    requires own { (p : Val) → check_item operation (batch_item_val item.old) ≡ Ok p →
+        IsOfOperation operation p }
+    ensures { Gives (check_item operation (batch_item_val item.old))
+        (seen_by (P.val operation) result) }
 {
     match item.result_status {
         ResultStatus::OperationFailed => {
-            failure(alloc, operation, item.result_reason, &item.result_message)
+            let reason = item.result_reason;
+            Err(failure(alloc, operation, reason, &item.result_message)?)
         }
         ResultStatus::OperationPending => {
             let text = "Result status 'operation pending' is not supported";
@@ -142,9 +153,9 @@ fn check_item(
         }
         ResultStatus::Success => {
             if is_of(item.operation, operation) {
-                payload_of(alloc, item.payload.take())
+                payload_of(alloc, operation, item.payload.take())
             } else {
-                mismatch(alloc, item.operation, operation)
+                Err(mismatch(alloc, item.operation, operation)?)
             }
         }
     }
@@ -158,13 +169,16 @@ fn counts_one(header: &ResponseHeader) -> bool
 }
 
 /// What a response message answers.
-fn check_message(
+fn check_message<P: Answered>(
     alloc: Global,
     operation: Operation,
     message: ResponseMessage,
-) -> Result<ResponsePayload, Error>
+) -> Result<P, Error>
+    requires answers { P.Answers operation }
+    requires own { (p : Val) → check_response operation (response_message_val message) ≡ Ok p →
+        IsOfOperation operation p }
     ensures { Gives (check_response operation (response_message_val message))
-        (answer_with_payload result) }
+        (seen_by (P.val operation) result) }
 {
     let ResponseMessage {
         header,
@@ -172,22 +186,27 @@ fn check_message(
     } = message;
     let count = batch_items.len();
     if !counts_one(&header) {
-        return not_single(alloc, count);
+        return Err(not_single(alloc, count)?);
     }
     if count != 1 {
-        return not_single(alloc, count);
+        return Err(not_single(alloc, count)?);
     }
     let mut items = batch_items.into_vec();
     match items.first_mut() {
         Some(item) => check_item(alloc, operation, item),
-        None => not_single(alloc, count),
+        None => Err(not_single(alloc, count)?),
     }
 }
 
 /// What the bytes of a whole message answer: they are checked, read as a response message, and its
-/// payload is taken out.
-fn payload_in(alloc: Global, operation: Operation, m: &[u8]) -> Result<ResponsePayload, Error>
-    ensures { Gives (read_answer operation m.now) (answer_with_payload result) }
+/// payload is taken out, as the payload that a call returns.
+pub fn decode_response<P: Answered>(
+    alloc: Global,
+    operation: Operation,
+    m: &[u8],
+) -> Result<P, Error>
+    requires { P.Answers operation }
+    ensures { Gives (read_answer operation m.now) (seen_by (P.val operation) result) }
 {
     let Some(item) = ItemRef::root(m) else {
         return Err(Error::DeserializeError(Text::of(alloc, "malformed TTLV")?));
@@ -199,31 +218,4 @@ fn payload_in(alloc: Global, operation: Operation, m: &[u8]) -> Result<ResponseP
         }
         Err(ReadError::OutOfMemory) => Err(Error::OutOfMemory),
     }
-}
-
-/// The payload that is asked for, or the error.
-fn part<P: Answered>(
-    operation: Operation,
-    answer: Result<ResponsePayload, Error>,
-) -> Result<P, Error>
-    requires answers { P.Answers operation }
-    requires own { IfOk answer (λ payload. IsOfOperation operation (response_payload_val payload)) }
-    ensures { seen_by (P.val operation) result ≡ answer_with_payload answer }
-{
-    match answer {
-        Ok(payload) => Ok(P::of(operation, payload)),
-        Err(error) => Err(error),
-    }
-}
-
-/// The same, as the payload that a call returns.
-pub fn decode_response<P: Answered>(
-    alloc: Global,
-    operation: Operation,
-    m: &[u8],
-) -> Result<P, Error>
-    requires { P.Answers operation }
-    ensures { Gives (read_answer operation m.now) (seen_by (P.val operation) result) }
-{
-    part(operation, payload_in(alloc, operation, m))
 }

@@ -22,6 +22,24 @@ returns-in_err-reserve_exact-clause-exchange g c = λ tells.
     let p = err_from_is_err_and c.from_residual-in_err-reserve_exact.result c.from_residual-in_err-reserve_exact.ensures.1 in
     rw (p.1, p.2) (short_at_start _ _)
 
+pub returns-then-not-has_buf-clause-exchange : goal.returns-then-not-has_buf-clause-exchange
+returns-then-not-has_buf-clause-exchange g c = λ tells.
+    of_request (g.R.CallRequest.kind.reads (g.R.CallRequest.request c.args.request.now))
+    (seen_by (g.R.CallRequest.seen c.args.request.now) c.exchange-answer.result)
+    (g.R.CallRequest.kind.bytes_of (g.R.CallRequest.request c.args.request.now)
+    (option_map credential_of c.args.settings.now.authentication))
+    c.serialize.new.out.bytes c.as_slice-2.result.now c.args.settings.now.config.max_bytes _
+    c.in-Ok.ensures.ok c.as_slice-2.ensures (c.exchange-answer.ensures.exchange tells)
+
+pub returns-then-not-has_buf-clause-caused : goal.returns-then-not-has_buf-clause-caused
+returns-then-not-has_buf-clause-caused g c =
+    caused_by (g.R.CallRequest.kind.reads (g.R.CallRequest.request c.args.request.now))
+    (seen_by (g.R.CallRequest.seen c.args.request.now) c.exchange-answer.result)
+    (g.R.CallRequest.kind.bytes_of (g.R.CallRequest.request c.args.request.now)
+    (option_map credential_of c.args.settings.now.authentication))
+    c.serialize.new.out.bytes c.as_slice-2.result.now c.args.settings.now.config.max_bytes
+    c.in-Ok.ensures.ok c.as_slice-2.ensures c.exchange-answer.ensures.caused
+
 pub returns-then-not-has_response-clause-exchange : goal.returns-then-not-has_response-clause-exchange
 returns-then-not-has_response-clause-exchange g c = λ tells.
     of_request (g.R.CallRequest.kind.reads (g.R.CallRequest.request c.args.request.now))
