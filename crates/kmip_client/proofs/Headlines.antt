@@ -141,12 +141,6 @@ pub front_variant : {P : Type 0} (val : P → Val) (operation : Operation) (here
 front_variant val operation here (Ok payload) gives = given_variant operation here (val payload) (sym gives)
 front_variant val operation here (Err error) gives = tt
 
-pub read_has_variant : {P : Type 0} (val : P → Val) (operation : Operation) (m : List ℕ) (result : Result P Error) →
-    Gives (read_answer operation m) (seen_by val result)
-    → IfOk result (λ payload. IsOfOperation operation (val payload))
-read_has_variant val operation m (Ok payload) gives = read_variant operation (item_of 64 m) (val payload) (sym gives)
-read_has_variant val operation m (Err error) gives = tt
-
 caused_variant : {before after : ℕ} (request : Option (List ℕ)) (operation : Operation)
     (limit : Option ℕ) (answer : Answer) (payload : Val)
     → Caused request (read_answer operation) limit before after answer → answer ≡ Ok payload
