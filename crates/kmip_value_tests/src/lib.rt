@@ -8,8 +8,6 @@ mod codes;
 #[cfg(test)]
 mod enums;
 #[cfg(test)]
-mod json;
-#[cfg(test)]
 mod keys;
 #[cfg(test)]
 mod names;

@@ -1,74 +1,103 @@
-use crate::support::{blob, bytes_of, children_are, comes_back_copied, is_shown, is_written, text};
-use kmip_shape::{BigInteger, Boxed, Item, List, Outer, ReadItem, Timestamp, copy_optional_list};
+use crate::support::{blob, children_are, comes_back, comes_back_copied, is_json, is_shown, text};
+use kmip_codes::PaddingMethod;
+use kmip_shape::{BigInteger, Boxed, ShowItem, Timestamp};
 use kmip_tags::tags::OPERATION;
-use kmip_wire::{Blob, ItemRef, Text};
+use kmip_types::CryptographicParameters;
+use kmip_wire::{Blob, Text};
+use std::alloc::Global;
+use std::process::Abort;
 
-const ITEM: &str = "5C i1";
+/// Items, and the integers that their children of a tag are read as; none where they are not read.
+const CHILDREN: &[(&str, Option<&[i32]>)] = &[
+    ("7C{5C i1,5C i24}", Some(&[1, 24])),
+    ("7C{5C i1}", Some(&[1])),
+    ("7C{}", Some(&[])),
+    ("5C i1", None),
+    ("7C{5C e1}", None),
+];
 
 #[test]
 fn children_of_a_tag(rt: HostRuntime) {
-    let alloc = rt.alloc();
-    let two = "7C{5C i1,5C i24}";
-    children_are::<i32>(&rt, alloc, two, OPERATION, None, None, Some(&[1, 24]));
-    let one = "7C{5C i1}";
-    children_are::<i32>(
-        &rt,
-        alloc,
-        one,
-        OPERATION,
-        Some(1),
-        Some(Some(1)),
-        Some(&[1]),
-    );
-    let none = "7C{}";
-    children_are::<i32>(&rt, alloc, none, OPERATION, None, Some(None), Some(&[]));
-    children_are::<i32>(&rt, alloc, ITEM, OPERATION, None, None, None);
-    let other = "7C{5C e1}";
-    children_are::<i32>(&rt, alloc, other, OPERATION, None, None, None);
+    for (notation, list) in CHILDREN {
+        children_are::<i32>(&rt, rt.alloc(), notation, OPERATION, *list);
+    }
+}
+
+/// What a value is shown as, and its JSON.
+fn is_plain<T: ShowItem>(rt: &impl Abort, alloc: Global, value: &T, shown: &str, json: &str) {
+    is_shown(rt, alloc, value, shown);
+    is_json(rt, alloc, value, json);
+}
+
+/// Dates, what they are shown as, and their JSON.
+const DATES: &[(u64, &str, &str)] = &[
+    (0xFFFF_FFFF_FFFF_FFFB, "18446744073709551611", "-5"),
+    (0, "0", "0"),
+    (
+        0x7FFF_FFFF_FFFF_FFFF,
+        "9223372036854775807",
+        "9223372036854775807",
+    ),
+    (
+        0x8000_0000_0000_0000,
+        "9223372036854775808",
+        "-9223372036854775808",
+    ),
+];
+
+/// Signed dates, what they are shown as, and their JSON.
+const TIMESTAMPS: &[(i64, &str, &str)] = &[
+    (-1, "18446744073709551615", "-1"),
+    (-5, "18446744073709551611", "-5"),
+    (0, "0", "0"),
+];
+
+#[test]
+fn dates_are_shown(rt: HostRuntime) {
+    for (date, shown, json) in DATES {
+        is_plain::<u64>(&rt, rt.alloc(), date, shown, json);
+    }
+    for (date, shown, json) in TIMESTAMPS {
+        is_plain::<Timestamp>(&rt, rt.alloc(), &Timestamp(*date), shown, json);
+    }
 }
 
 #[test]
-fn plain_values_are_shown_and_written(rt: HostRuntime) {
+fn plain_values_are_shown(rt: HostRuntime) {
     let alloc = rt.alloc();
-    is_shown(&rt, alloc, &-5i32, "-5");
-    is_shown(&rt, alloc, &Timestamp(-1), "18446744073709551615");
-    is_shown(&rt, alloc, &Timestamp(0), "0");
-    is_shown(
-        &rt,
-        alloc,
-        &0xFFFF_FFFF_FFFF_FFFBu64,
-        "18446744073709551611",
-    );
-    is_shown(&rt, alloc, &0u64, "0");
-    is_shown(&rt, alloc, &true, "true");
-    is_shown(&rt, alloc, &blob(&rt, alloc, &[0x0A, 0xFF]), "x\"0AFF\"");
-    is_written(&rt, alloc, &1i32, ITEM);
-    let text = text(&rt, alloc, "a\"b\\c\n\u{7f}\u{e9}");
-    is_shown(&rt, alloc, &text, "\"a\\\"b\\\\c\\x0A\\x7F\u{e9}\"");
+    is_plain::<i32>(&rt, alloc, &-5, "-5", "-5");
+    is_plain::<bool>(&rt, alloc, &true, "true", "true");
+    let bytes = blob(&rt, alloc, &[0x0A, 0xFF]);
+    is_plain::<Blob>(&rt, alloc, &bytes, "x\"0AFF\"", "\"0AFF\"");
+    is_json(&rt, alloc, &blob(&rt, alloc, &[]), "\"\"");
+    let none = CryptographicParameters::default();
+    is_json(&rt, alloc, &none, "{}");
+    let padded = none.with_padding_method(PaddingMethod::OAEP);
+    is_json(&rt, alloc, &padded, "{\"padding_method\":\"OAEP\"}");
 }
 
-const LETTER: &str = r#"5C "a""#;
+/// A text with marks that are escaped, and what it is shown as.
+const SHOWN: (&str, &str) = ("a\"b\\c\n\u{7f}\u{e9}", "\"a\\\"b\\\\c\\x0A\\x7F\u{e9}\"");
+
+/// A text with marks that are escaped, and its JSON.
+const JSON: (&str, &str) = (
+    "\0\"b\\c\n\u{1f}\u{7f}\u{e9}",
+    "\"\\u0000\\\"b\\\\c\\u000A\\u001F\\u007F\u{e9}\"",
+);
+
+#[test]
+fn texts_are_shown(rt: HostRuntime) {
+    let alloc = rt.alloc();
+    is_shown(&rt, alloc, &text(&rt, alloc, SHOWN.0), SHOWN.1);
+    is_json(&rt, alloc, &text(&rt, alloc, JSON.0), JSON.1);
+}
 
 #[test]
 fn items_and_their_copies(rt: HostRuntime) {
     let alloc = rt.alloc();
-    comes_back_copied::<Boxed<Text>>(&rt, alloc, LETTER, "\"a\"");
+    comes_back::<i32>(&rt, alloc, "5C i1", "1");
+    comes_back_copied::<Boxed<Text>>(&rt, alloc, r#"5C "a""#, "\"a\"");
     comes_back_copied::<Blob>(&rt, alloc, "5C x0AFF", "x\"0AFF\"");
     let big = "5C b0000000000000018";
     comes_back_copied::<BigInteger>(&rt, alloc, big, "x\"0000000000000018\"");
-    let bytes = bytes_of(&rt, alloc, LETTER);
-    let item = ItemRef::root(&bytes).expect(&rt, "an item");
-    let text = Boxed::<Text>::read(alloc, Outer::none(), item).expect(&rt, "a text");
-    text.fits();
-    let text = text.into_inner();
-    assert_eq!(&rt; text.as_str(), "a");
-}
-
-#[test]
-fn lists_are_copied(rt: HostRuntime) {
-    let alloc = rt.alloc();
-    let numbers = Vec::from_array(alloc, [1i32, 24]).expect(&rt, "memory");
-    let list = Some(List::of_vec(numbers));
-    let copy = copy_optional_list(&list, alloc).expect(&rt, "memory");
-    assert!(&rt; copy == list);
 }

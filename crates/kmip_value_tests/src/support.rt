@@ -41,7 +41,7 @@ impl Under {
     }
 }
 
-/// An item in the notation, and what it shows as where it is read.
+/// An item in the notation, and what its value is where it is read.
 #[derive(Clone, Copy)]
 pub struct Case {
     /// The value of the chooser that it is read under.
@@ -50,6 +50,8 @@ pub struct Case {
     pub notation: &'static str,
     /// What it shows as, and none where it is not read.
     pub shown: Option<&'static str>,
+    /// Its JSON, where that is compared.
+    pub json: Option<&'static str>,
 }
 
 /// A text.
@@ -67,8 +69,18 @@ pub fn bytes_of(rt: &impl Abort, alloc: Global, notation: &str) -> Vec<u8> {
     message(alloc, notation).expect(rt, "the notation of messages")
 }
 
+/// The tag of the number.
+fn tag_of(rt: &impl Abort, number: u32) -> Tag {
+    Tag::new(number).expect(rt, "a tag")
+}
+
 /// The value of an item, and none where it is not read.
-fn read<T: ReadItem>(rt: &impl Abort, alloc: Global, under: Under, notation: &str) -> Option<T> {
+pub fn read<T: ReadItem>(
+    rt: &impl Abort,
+    alloc: Global,
+    under: Under,
+    notation: &str,
+) -> Option<T> {
     let bytes = bytes_of(rt, alloc, notation);
     let item = ItemRef::root(&bytes).expect(rt, "an item");
     match T::read(alloc, under.outer(), item) {
@@ -82,7 +94,19 @@ fn read<T: ReadItem>(rt: &impl Abort, alloc: Global, under: Under, notation: &st
 pub fn is_shown<T: ShowItem>(rt: &impl Abort, alloc: Global, value: &T, shown: &str) {
     let mut text = Text::new(alloc);
     value.show(alloc, &mut text).expect(rt, "memory");
-    assert_eq!(rt; text.as_str(), shown);
+    is_text(rt, text.as_str(), shown);
+}
+
+/// The JSON of the value is this.
+pub fn is_json<T: ShowItem>(rt: &impl Abort, alloc: Global, value: &T, json: &str) {
+    let mut text = Text::new(alloc);
+    value.show_json(alloc, &mut text).expect(rt, "memory");
+    is_text(rt, text.as_str(), json);
+}
+
+/// The two texts are equal.
+fn is_text(rt: &impl Abort, text: &str, expected: &str) {
+    assert_eq!(rt; text, expected);
 }
 
 /// The value is written as this item.
@@ -90,13 +114,19 @@ pub fn is_written<T: WriteItem>(rt: &impl Abort, alloc: Global, value: &T, notat
     let bytes = bytes_of(rt, alloc, notation);
     let item = ItemRef::root(&bytes).expect(rt, "an item");
     let written = to_blob(alloc, value, item.tag()).expect(rt, "a form");
-    assert!(rt; written.as_slice() == bytes.as_slice());
+    assert!(rt; written.as_slice() == bytes.as_slice(), "{notation}");
 }
 
 /// The value has a copy that equals it.
 pub fn is_copied<T: TryClone + PartialEq + Drop>(rt: &impl Abort, alloc: Global, value: &T) {
     let copy = value.try_clone(alloc).expect(rt, "memory");
     assert!(rt; copy == *value);
+}
+
+/// The value has no form as an item of the tag.
+pub fn has_no_form<T: WriteItem>(rt: &impl Abort, value: &T, tag: u32) {
+    let len = item_len(value, tag_of(rt, tag));
+    assert!(rt; len.is_none());
 }
 
 /// The item is read as a value that is shown as the text and written as the same bytes.
@@ -106,15 +136,9 @@ pub fn comes_back<T: ReadItem + WriteItem + ShowItem>(
     notation: &str,
     shown: &str,
 ) {
-    let value = read::<T>(rt, alloc, Under::Nothing, notation).expect(rt, "a value");
+    let value = read::<T>(rt, alloc, Under::Nothing, notation).expect(rt, notation);
     is_shown(rt, alloc, &value, shown);
     is_written(rt, alloc, &value, notation);
-}
-
-/// The item is not read, where no chooser stands above it.
-pub fn is_unread<T: ReadItem>(rt: &impl Abort, alloc: Global, notation: &str) {
-    let value = read::<T>(rt, alloc, Under::Nothing, notation);
-    assert!(rt; value.is_none());
 }
 
 /// The item comes back, and its value has a copy.
@@ -124,30 +148,56 @@ pub fn comes_back_copied<T: ReadItem + WriteItem + ShowItem + TryClone + Partial
     notation: &str,
     shown: &str,
 ) {
-    is_case::<T>(rt, alloc, Under::Nothing, notation, Some(shown));
+    let value = read::<T>(rt, alloc, Under::Nothing, notation).expect(rt, notation);
+    is_shown(rt, alloc, &value, shown);
+    is_written(rt, alloc, &value, notation);
+    is_copied(rt, alloc, &value);
 }
 
-/// The item is read exactly where it shows something, is written as the same bytes, and has a copy
-/// that equals it.
-fn is_case<T: ReadItem + WriteItem + ShowItem + TryClone + PartialEq>(
+/// The item is read as a value that is shown as the text.
+pub fn reads_as<T: ReadItem + ShowItem>(
     rt: &impl Abort,
     alloc: Global,
     under: Under,
     notation: &str,
-    shown: Option<&str>,
+    shown: &str,
 ) {
-    let Some(value) = read::<T>(rt, alloc, under, notation) else {
-        assert!(rt; shown.is_none());
-        return;
-    };
-    is_shown(
-        rt,
-        alloc,
-        &value,
-        shown.expect(rt, "a value that is not read"),
-    );
-    is_written(rt, alloc, &value, notation);
-    is_copied(rt, alloc, &value);
+    let value = read::<T>(rt, alloc, under, notation).expect(rt, notation);
+    is_shown(rt, alloc, &value, shown);
+}
+
+/// The item is not read, where no chooser stands above it.
+pub fn is_unread<T: ReadItem>(rt: &impl Abort, alloc: Global, notation: &str) {
+    let value = read::<T>(rt, alloc, Under::Nothing, notation);
+    assert!(rt; value.is_none(), "{notation}");
+}
+
+/// The value of a case is shown as its text and as its JSON, is written as the same bytes, and has
+/// a copy that equals it.
+fn is_value<T: WriteItem + ShowItem + TryClone + PartialEq + Drop>(
+    rt: &impl Abort,
+    alloc: Global,
+    value: &T,
+    case: &Case,
+) {
+    is_shown(rt, alloc, value, case.shown.unwrap_or("not read"));
+    if let Some(json) = case.json {
+        is_json(rt, alloc, value, json);
+    }
+    is_written(rt, alloc, value, case.notation);
+    is_copied(rt, alloc, value);
+}
+
+/// The item is read exactly where it shows something, and its value is as the case says.
+fn is_case<T: ReadItem + WriteItem + ShowItem + TryClone + PartialEq>(
+    rt: &impl Abort,
+    alloc: Global,
+    case: &Case,
+) {
+    match read::<T>(rt, alloc, case.under, case.notation) {
+        Some(value) => is_value(rt, alloc, &value, case),
+        None => assert!(rt; case.shown.is_none(), "{}", case.notation),
+    }
 }
 
 /// Each item is as its case says.
@@ -157,62 +207,54 @@ pub fn are_read<T: ReadItem + WriteItem + ShowItem + TryClone + PartialEq>(
     cases: &[Case],
 ) {
     for case in cases {
-        is_case::<T>(rt, alloc, case.under, case.notation, case.shown);
+        is_case::<T>(rt, alloc, case);
     }
 }
 
-/// The item is read as this value.
-pub fn reads_as<T: ReadItem + PartialEq>(
-    rt: &impl Abort,
-    alloc: Global,
-    under: Under,
-    notation: &str,
-    expected: T,
-) {
-    let value = read::<T>(rt, alloc, under, notation).expect(rt, "a value");
-    assert!(rt; value == expected);
-}
-
-/// What children of the tag are read as: as one, as one that may be absent, and as a list.
-pub fn children_are<T: ReadItem + PartialEq>(
+/// What children of the tag are read as: as a list of these, or not at all; as one, where one
+/// stands in the list; and as one that may be absent.
+pub fn children_are<T: ReadItem + Copy + PartialEq>(
     rt: &impl Abort,
     alloc: Global,
     notation: &str,
     tag: u32,
-    one: Option<T>,
-    optional: Option<Option<T>>,
     list: Option<&[T]>,
 ) {
-    let (tag, outer) = (Tag::new(tag).expect(rt, "a tag"), Outer::none());
+    let (tag, outer) = (tag_of(rt, tag), Outer::none());
     let bytes = bytes_of(rt, alloc, notation);
     let parent = ItemRef::root(&bytes).expect(rt, "an item");
-    assert!(rt; read_one::<T>(alloc, outer, parent, tag) == one.ok_or(ReadError::Unread));
-    assert!(rt; read_opt::<T>(alloc, outer, parent, tag) == optional.ok_or(ReadError::Unread));
+    let one = match list {
+        Some([one]) => Ok(*one),
+        _ => Err(ReadError::Unread),
+    };
+    let optional = match list {
+        Some([]) => Ok(None),
+        _ => one.map(Some),
+    };
+    assert!(rt;
+        read_one::<T>(alloc, outer, parent, tag) == one,
+        "{notation}"
+    );
+    assert!(rt;
+        read_opt::<T>(alloc, outer, parent, tag) == optional,
+        "{notation}"
+    );
     match read_list::<T>(alloc, outer, parent, tag) {
-        Ok(read) => assert!(rt; list == Some(read.as_slice())),
-        Err(error) => assert!(rt; list.is_none() && error == ReadError::Unread),
+        Ok(read) => assert!(rt; list == Some(read.as_slice()), "{notation}"),
+        Err(error) => assert!(rt; list.is_none() && error == ReadError::Unread, "{notation}"),
     }
-}
-
-pub fn are_equal<T: PartialEq + Drop>(value: T, expected: T) -> bool {
-    value == expected
-}
-
-/// The length of the value as an item.
-pub fn len_of<T: WriteItem + Drop>(value: T, tag: Tag) -> Option<u64> {
-    item_len(&value, tag)
 }
 
 /// The value prints this text.
 pub fn is_printed<T: Display>(rt: &impl Abort, alloc: Global, value: &T, text: &str) {
     let printed = format!(in alloc; "{value}").expect(rt, "memory");
-    assert_eq!(rt; printed.as_str(), text);
+    is_text(rt, printed.as_str(), text);
 }
 
 /// The variant of the number prints the name.
 fn is_named<T: Enumeration + Display>(rt: &impl Abort, alloc: Global, number: u32, name: &str) {
-    let variant = T::from_number(number).expect(rt, "a variant");
-    assert_eq!(rt; variant.number(), number);
+    let variant = T::from_number(number).expect(rt, name);
+    assert!(rt; variant.number() == number, "{name}");
     is_printed(rt, alloc, &variant, name);
 }
 
@@ -228,6 +270,8 @@ pub fn has_names<T: Enumeration + Display>(
         let number = left.next().expect(rt, "no more names than numbers");
         is_named::<T>(rt, alloc, number, name);
     }
-    assert!(rt; left.is_empty());
-    assert!(rt; T::from_number(left.end).is_none());
+    assert!(rt;
+        left.is_empty() && T::from_number(left.end).is_none(),
+        "{names}"
+    );
 }

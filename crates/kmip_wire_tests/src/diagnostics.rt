@@ -1,6 +1,6 @@
 //! Diagnostics and their expansions, in rows worked out by hand: bytes or a text, and what is to be
 //! printed for them.
-use crate::support::{bytes_of, is_text};
+use crate::support::bytes_of;
 use kmip_diag::{DiagError, PrettyPrinter};
 use std::alloc::Global;
 use std::process::Abort;
@@ -40,128 +40,109 @@ const KINDS: &str = concat!(
 
 const CUT_OFF: &str = "42007C01000000084200940700000001";
 
-/// A printer whose tags begin with 42.
-fn printer() -> PrettyPrinter {
+/// A printer with this prefix, or none.
+fn printer_with(prefix: Option<u16>) -> PrettyPrinter {
     let mut printer = PrettyPrinter::new();
-    printer.with_tag_prefix(0x4200);
+    if let Some(prefix) = prefix {
+        printer.with_tag_prefix(prefix);
+    }
     printer
 }
 
-/// The bytes have this diagnostic.
-fn is_printed(
-    rt: &impl Abort,
-    alloc: Global,
-    printer: &PrettyPrinter,
-    bytes: &[u8],
-    expected: &str,
-) {
-    let text = printer.to_diag_string(alloc, bytes).expect(rt, "memory");
-    is_text(rt, text.as_str(), expected);
-}
-
-/// The first bytes of so many have this diagnostic.
-fn is_front_printed(rt: &impl Abort, alloc: Global, hex: &str, size: usize, expected: &str) {
-    let bytes = bytes_of(rt, alloc, hex);
-    let front = bytes.get(..size).expect(rt, "bytes");
-    is_printed(rt, alloc, &printer(), front, expected);
-}
+/// The prefix of KMIP's tags, which begin with 42.
+const KMIP: Option<u16> = Some(0x4200);
 
 /// What both responses are printed as.
 const PRINTED_RESPONSE: &str = "7B[7A[69[6Ai6Bi]92d0Di]0F[5Ce25:7Fe0:7C[C2x]]]";
 
-/// Bytes, how many of them are printed, and as what.
-const PRINTED: &[(&str, usize, &str)] = &[
-    (RESPONSE, 0, ""),
-    (RESPONSE, 7, "!"),
-    (RESPONSE, 8, "7B[!"),
-    (RESPONSE, 24, "7B[7A[69[!"),
-    (RESPONSE, 152, PRINTED_RESPONSE),
-    (LONGER_RESPONSE, 192, PRINTED_RESPONSE),
+/// A prefix, bytes, how many of them are printed, and as what.
+const PRINTED: &[(Option<u16>, &str, usize, &str)] = &[
+    (KMIP, RESPONSE, 0, ""),
+    (KMIP, RESPONSE, 7, "!"),
+    (KMIP, RESPONSE, 8, "7B[!"),
+    (KMIP, RESPONSE, 24, "7B[7A[69[!"),
+    (KMIP, RESPONSE, 152, PRINTED_RESPONSE),
+    (KMIP, LONGER_RESPONSE, 192, PRINTED_RESPONSE),
     (
+        KMIP,
         REQUEST,
         224,
         "78[77[69[6Ai6Bi]0C[23[24e1:25[99tA1t]]]0Di]0F[5Ce8:79[08[0At0Be4:]]]]",
     ),
     (
+        KMIP,
         KINDS,
         160,
         "7C[540002i540003l540004b540005e1F:540006o540007t540008x540009d54000An7C[]]",
     ),
-    (CUT_OFF, 16, "7C[!"),
+    (KMIP, CUT_OFF, 16, "7C[!"),
+    (None, CUT_OFF, 16, "42007C[!"),
+    (Some(0x5400), CUT_OFF, 16, "42007C[!"),
 ];
+
+/// The bytes have this diagnostic.
+fn is_printed(rt: &impl Abort, alloc: Global, prefix: Option<u16>, front: &[u8], expected: &str) {
+    let printer = printer_with(prefix);
+    let text = printer.to_diag_string(alloc, front).expect(rt, "memory");
+    assert_eq!(rt; text.as_str(), expected);
+}
 
 #[test]
 fn bytes_have_their_diagnostics(rt: HostRuntime) {
-    for (hex, size, want) in PRINTED {
-        is_front_printed(&rt, rt.alloc(), hex, *size, want);
+    for (prefix, hex, size, expected) in PRINTED {
+        let bytes = bytes_of(&rt, rt.alloc(), hex);
+        let front = bytes.get(..*size).expect(&rt, "bytes");
+        is_printed(&rt, rt.alloc(), *prefix, front, expected);
     }
 }
 
-/// With this prefix what is cut off has this diagnostic, and a tag of six digits is read or not.
-fn has_prefix(rt: &impl Abort, alloc: Global, prefix: Option<u16>, expected: &str) {
-    let mut printer = PrettyPrinter::new();
-    if let Some(prefix) = prefix {
-        printer.with_tag_prefix(prefix);
-    }
-    let cut_off = bytes_of(rt, alloc, CUT_OFF);
-    is_printed(rt, alloc, &printer, &cut_off, expected);
-    let is_read = printer.expand(alloc, "420094t").is_ok();
-    assert_eq!(rt; is_read, prefix != Some(0x4200));
-}
-
-/// Prefixes, and what is printed under them.
-const PREFIXES: &[(Option<u16>, &str)] = &[
-    (None, "42007C[!"),
-    (Some(0x4200), "7C[!"),
-    (Some(0x5400), "42007C[!"),
+/// A prefix, a text, and the lines that it expands to; none where it is no diagnostic.
+const EXPANDED: &[(Option<u16>, &str, Option<&str>)] = &[
+    (KMIP, "", Some("")),
+    (
+        KMIP,
+        "08[0At0Be4:]",
+        Some(
+            "Tag: Attribute (0x420008), Type: Structure (0x01), Data: \n  Tag: Attribute Name (0x42000A), Type: TextString (0x07), Data: <redacted>\n  Tag: Attribute Value (0x42000B), Type: Enumeration (0x05), Data: 4\n",
+        ),
+    ),
+    (None, "420094t", Some(UNIQUE_IDENTIFIER)),
+    (Some(0x5400), "420094t", Some(UNIQUE_IDENTIFIER)),
+    (KMIP, "420094t", None),
+    (KMIP, "!", None),
+    (KMIP, "7B[!", None),
+    (KMIP, "7B]", None),
+    (KMIP, "]", None),
+    (KMIP, "24e1", None),
+    (KMIP, "24e1:!", None),
+    (KMIP, "7b[]", None),
+    (KMIP, "94", None),
+    (KMIP, "4200", None),
 ];
 
-#[test]
-fn a_printer_has_its_prefix(rt: HostRuntime) {
-    for (prefix, want) in PREFIXES {
-        has_prefix(&rt, rt.alloc(), *prefix, want);
-    }
-}
+const UNIQUE_IDENTIFIER: &str =
+    "Tag: Unique Identifier (0x420094), Type: TextString (0x07), Data: <redacted>\n";
 
-/// The text expands to these lines.
+/// The text expands to these lines, or is no diagnostic.
 fn is_expanded(
     rt: &impl Abort,
     alloc: Global,
-    printer: &PrettyPrinter,
+    prefix: Option<u16>,
     text: &str,
-    expected: &str,
+    expected: Option<&str>,
 ) {
-    let lines = printer.expand(alloc, text).expect(rt, "lines");
-    is_text(rt, lines.as_str(), expected);
+    match printer_with(prefix).expand(alloc, text) {
+        Ok(lines) => assert!(rt; expected == Some(lines.as_str()), "{text}"),
+        Err(error) => {
+            let is_refused = error == DiagError::NotADiagnostic;
+            assert!(rt; is_refused && expected.is_none(), "{text}");
+        }
+    }
 }
-
-/// The text is no diagnostic.
-fn is_refused(rt: &impl Abort, alloc: Global, printer: &PrettyPrinter, text: &str) {
-    let is_refused = matches!(printer.expand(alloc, text), Err(DiagError::NotADiagnostic));
-    assert!(rt; is_refused, "{text}");
-}
-
-/// Texts and the lines that they expand to.
-const EXPANDED: &[(&str, &str)] = &[
-    ("", ""),
-    (
-        "08[0At0Be4:]",
-        "Tag: Attribute (0x420008), Type: Structure (0x01), Data: \n  Tag: Attribute Name (0x42000A), Type: TextString (0x07), Data: <redacted>\n  Tag: Attribute Value (0x42000B), Type: Enumeration (0x05), Data: 4\n",
-    ),
-];
-
-/// Texts that are no diagnostics.
-const REFUSED: &[&str] = &[
-    "!", "7B[!", "7B]", "]", "24e1", "24e1:!", "7b[]", "94", "4200",
-];
 
 #[test]
 fn printed_texts_expand(rt: HostRuntime) {
-    let printer = printer();
-    for (text, want) in EXPANDED {
-        is_expanded(&rt, rt.alloc(), &printer, text, want);
-    }
-    for text in REFUSED {
-        is_refused(&rt, rt.alloc(), &printer, text);
+    for (prefix, text, expected) in EXPANDED {
+        is_expanded(&rt, rt.alloc(), *prefix, text, *expected);
     }
 }

@@ -1,8 +1,8 @@
 //! What no contract says: bytes made by another program are read and written, and calls succeed
 //! where there is memory.
-use crate::support::bytes_of;
+use crate::support::{are_bytes, bytes_of, tag_of};
 use kmip_wire::{
-    Blob, Boxed, Buffer, Kind, List, Node, Tag, Text, Tree, Trees, TryClone, check, clone_optional,
+    Blob, Buffer, Kind, List, Node, Tag, Text, Tree, Trees, TryClone, check, clone_optional,
     read_tree, write_tree,
 };
 use std::alloc::Global;
@@ -12,21 +12,13 @@ use std::process::Abort;
 const LOCATE: &str =
     "42007801000000904200770100000038420069010000002042006A0200000004000000010000000042006B0200000004000000000000000042000D0200000004000000010000000042000F010000004842005C050000000400000008000000004200790100000030420008010000002842000A070000000B4F626A6563742054797065000000000042000B05000000040000000400000000";
 
-/// The bytes of `count` structures, each the only child of the one before.
-fn nested(rt: &impl Abort, alloc: Global, count: u32) -> Blob {
-    let mut made = Blob::new(alloc);
-    for inner in (0..count).rev() {
-        let len = inner.checked_mul(8).expect(rt, "a length");
-        add(rt, &mut made, &[0x54, 0x00, 0x02, 0x01]);
-        add(rt, &mut made, &len.to_be_bytes());
-    }
-    made
-}
-
-/// The value or the children of an item in a test.
+/// The value of an item, or its children.
 #[derive(Clone, Copy)]
 enum Value {
-    Structure(&'static [(u32, i32)]),
+    /// A structure with no children.
+    Empty,
+    /// The structure of a version of the protocol.
+    Version(i32, i32),
     Integer(i32),
     LongInteger(i64),
     Big(&'static [u8]),
@@ -36,13 +28,6 @@ enum Value {
     Bytes(&'static [u8]),
     DateTime(u64),
     Interval(u32),
-}
-
-fn tag_of(number: u32) -> Tag {
-    match Tag::new(number) {
-        Some(tag) => tag,
-        None => Tag::of(0),
-    }
 }
 
 /// A text.
@@ -55,31 +40,27 @@ fn blob(rt: &impl Abort, alloc: Global, bytes: &[u8]) -> Blob {
     Blob::of(alloc, bytes).expect(rt, "memory")
 }
 
-/// Adds bytes to the end.
-fn add(rt: &impl Abort, to: &mut Blob, bytes: &[u8]) {
-    to.push_slice(bytes).expect(rt, "memory");
-}
-
 /// Adds an integer to the end of the items.
 fn add_integer(rt: &impl Abort, items: &mut Trees, tag: u32, number: i32) {
     let tree = Tree {
-        tag: tag_of(tag),
+        tag: tag_of(rt, tag),
         node: Node::Integer(number),
     };
     items.push(tree).expect(rt, "memory");
 }
 
-fn integers(rt: &impl Abort, alloc: Global, values: &[(u32, i32)]) -> Trees {
+/// The children of a version of the protocol.
+fn version(rt: &impl Abort, alloc: Global, major: i32, minor: i32) -> Trees {
     let mut items = Trees::new(alloc);
-    for (tag, number) in values {
-        add_integer(rt, &mut items, *tag, *number);
-    }
+    add_integer(rt, &mut items, 0x42006A, major);
+    add_integer(rt, &mut items, 0x42006B, minor);
     items
 }
 
 fn node_of(rt: &impl Abort, alloc: Global, value: Value) -> Node {
     match value {
-        Value::Structure(values) => Node::Structure(integers(rt, alloc, values)),
+        Value::Empty => Node::Structure(Trees::new(alloc)),
+        Value::Version(major, minor) => Node::Structure(version(rt, alloc, major, minor)),
         Value::Integer(number) => Node::Integer(number),
         Value::LongInteger(number) => Node::LongInteger(number),
         Value::Big(bytes) => Node::BigInteger(blob(rt, alloc, bytes)),
@@ -90,26 +71,6 @@ fn node_of(rt: &impl Abort, alloc: Global, value: Value) -> Node {
         Value::DateTime(seconds) => Node::DateTime(seconds),
         Value::Interval(seconds) => Node::Interval(seconds),
     }
-}
-
-/// The bytes that are written for an item.
-fn written(rt: &impl Abort, alloc: Global, number: u32, value: Value) -> Blob {
-    let tree = Tree {
-        tag: tag_of(number),
-        node: node_of(rt, alloc, value),
-    };
-    let bytes = write_tree(alloc, &tree).expect(rt, "a form");
-    drop(tree);
-    bytes
-}
-
-/// The item is written as these bytes.
-fn is_written(rt: &impl Abort, alloc: Global, number: u32, value: Value, hex: &str) {
-    let bytes = written(rt, alloc, number, value);
-    assert!(rt;
-        bytes.as_slice() == bytes_of(rt, alloc, hex).as_slice(),
-        "{hex}"
-    );
 }
 
 /// Items, and the bytes that they are written as.
@@ -202,24 +163,35 @@ const WRITTEN: &[(u32, Value, &str)] = &[
         Value::Interval(3600),
         "4200490A0000000400000E1000000000",
     ),
-    (0x420069, Value::Structure(&[]), "4200690100000000"),
+    (0x420069, Value::Empty, "4200690100000000"),
     (
         0x420069,
-        Value::Structure(&[(0x42006A, 1), (0x42006B, 2)]),
+        Value::Version(1, 2),
         "420069010000002042006A0200000004000000010000000042006B02000000040000000200000000",
     ),
 ];
 
-/// Each item is written as its bytes.
-fn are_written(rt: &impl Abort, alloc: Global, rows: &[(u32, Value, &str)]) {
-    for (number, value, hex) in rows {
-        is_written(rt, alloc, *number, *value, hex);
-    }
+/// The tree is written as these bytes.
+fn is_written(rt: &impl Abort, alloc: Global, tree: &Tree, hex: &str) {
+    let bytes = write_tree(alloc, tree).expect(rt, "a form");
+    are_bytes(rt, alloc, bytes.as_slice(), hex);
+}
+
+/// The item of this value is written as these bytes.
+fn is_item(rt: &impl Abort, alloc: Global, number: u32, value: Value, hex: &str) {
+    let tree = Tree {
+        tag: tag_of(rt, number),
+        node: node_of(rt, alloc, value),
+    };
+    is_written(rt, alloc, &tree, hex);
+    drop(tree);
 }
 
 #[test]
 fn trees_have_their_canonical_bytes(rt: HostRuntime) {
-    are_written(&rt, rt.alloc(), WRITTEN);
+    for (number, value, hex) in WRITTEN {
+        is_item(&rt, rt.alloc(), *number, *value, hex);
+    }
 }
 
 /// The value has a copy that equals it.
@@ -228,54 +200,59 @@ fn is_copied<T: TryClone + PartialEq + Drop>(rt: &impl Abort, alloc: Global, val
     assert!(rt; copy == *value);
 }
 
-/// The tree is written as these bytes.
-fn is_tree_of(rt: &impl Abort, alloc: Global, tree: &Tree, bytes: &[u8]) {
-    let written = write_tree(alloc, tree).expect(rt, "a form");
-    assert!(rt; written.as_slice() == bytes);
-}
-
 #[test]
 fn reads_the_item_at_the_front(rt: HostRuntime) {
-    let alloc = rt.alloc();
-    let bytes = blob(&rt, alloc, &bytes_of(&rt, alloc, LOCATE));
-    let mut longer = bytes.try_clone(alloc).expect(&rt, "memory");
-    add(&rt, &mut longer, &[0]);
-    assert!(rt; check(bytes.as_slice()) && !check(longer.as_slice()));
-    let (tree, size) = read_tree(alloc, longer.as_slice()).expect(&rt, "an item");
+    let mut longer = bytes_of(&rt, rt.alloc(), LOCATE);
+    longer.push(0).expect(&rt, "memory");
+    let front = longer.get(..152).expect(&rt, "bytes");
+    assert!(rt; check(front) && !check(longer.as_slice()));
+    let (tree, size) = read_tree(rt.alloc(), longer.as_slice()).expect(&rt, "an item");
     assert_eq!(rt; size, 152);
-    is_tree_of(&rt, alloc, &tree, bytes.as_slice());
-    is_copied::<Tree>(&rt, alloc, &tree);
+    is_written(&rt, rt.alloc(), &tree, LOCATE);
+    is_copied::<Tree>(&rt, rt.alloc(), &tree);
     drop(tree);
 }
 
-/// Structures of so many levels are good or not.
-fn is_good_at(rt: &impl Abort, alloc: Global, levels: u32, is_good: bool) {
-    let bytes = nested(rt, alloc, levels);
-    assert_eq!(rt; check(bytes.as_slice()), is_good, "{levels}");
-    let read = read_tree(alloc, bytes.as_slice());
-    assert_eq!(rt; read.is_ok(), is_good, "{levels}");
-    drop(read);
-}
+/// Structures of 65 levels, each the only child of the one before.
+const NESTED: &str = concat!(
+    "540002010000020054000201000001F854000201000001F054000201000001E854000201000001E0",
+    "54000201000001D854000201000001D054000201000001C854000201000001C054000201000001B8",
+    "54000201000001B054000201000001A854000201000001A054000201000001985400020100000190",
+    "54000201000001885400020100000180540002010000017854000201000001705400020100000168",
+    "54000201000001605400020100000158540002010000015054000201000001485400020100000140",
+    "54000201000001385400020100000130540002010000012854000201000001205400020100000118",
+    "54000201000001105400020100000108540002010000010054000201000000F854000201000000F0",
+    "54000201000000E854000201000000E054000201000000D854000201000000D054000201000000C8",
+    "54000201000000C054000201000000B854000201000000B054000201000000A854000201000000A0",
+    "54000201000000985400020100000090540002010000008854000201000000805400020100000078",
+    "54000201000000705400020100000068540002010000006054000201000000585400020100000050",
+    "54000201000000485400020100000040540002010000003854000201000000305400020100000028",
+    "54000201000000205400020100000018540002010000001054000201000000085400020100000000",
+);
 
-const LEVELS: &[(u32, bool)] = &[(1, true), (63, true), (64, true), (65, false)];
+/// Levels of structures, where the bytes of the innermost ones of so many begin, and whether they
+/// are an item.
+const LEVELS: &[(u32, usize, bool)] = &[
+    (1, 512, true),
+    (63, 16, true),
+    (64, 8, true),
+    (65, 0, false),
+];
+
+/// Structures of so many levels are an item or not.
+fn is_good(rt: &impl Abort, alloc: Global, levels: u32, bytes: &[u8], is_good: bool) {
+    assert!(rt; check(bytes) == is_good, "{levels}");
+    let error = read_tree(alloc, bytes).err();
+    assert!(rt; error.is_none() == is_good, "{levels}");
+}
 
 #[test]
 fn stops_at_sixty_four_levels(rt: HostRuntime) {
-    for (levels, is_good) in LEVELS {
-        is_good_at(&rt, rt.alloc(), *levels, *is_good);
+    let nested = bytes_of(&rt, rt.alloc(), NESTED);
+    for (levels, start, good) in LEVELS {
+        let bytes = nested.get(*start..).expect(&rt, "bytes");
+        is_good(&rt, rt.alloc(), *levels, bytes, *good);
     }
-}
-
-/// A text that grew to this one, which its copy is too.
-fn is_grown_text(rt: &impl Abort, alloc: Global, grown: &Text, expected: &str) {
-    let copy = grown.try_clone(alloc).expect(rt, "memory");
-    assert!(rt; copy.as_str() == expected);
-}
-
-/// Bytes that grew to these, which their copy is too.
-fn are_grown_bytes(rt: &impl Abort, alloc: Global, grown: &Blob, expected: &[u8]) {
-    let copy = grown.try_clone(alloc).expect(rt, "memory");
-    assert!(rt; copy.as_slice() == expected);
 }
 
 /// Adds "me" to the end.
@@ -290,20 +267,12 @@ fn texts_grow_and_are_copied(rt: HostRuntime) {
     let alloc = rt.alloc();
     let mut name = text(&rt, alloc, "na");
     add_me(&rt, &mut name);
-    is_grown_text(&rt, alloc, &name, "name");
+    assert!(rt; name.as_str() == "name");
+    is_copied::<Text>(&rt, alloc, &name);
     let mut bytes = blob(&rt, alloc, &[1, 2]);
-    add(&rt, &mut bytes, &[3]);
-    are_grown_bytes(&rt, alloc, &bytes, &[1, 2, 3]);
-}
-
-#[test]
-fn boxed_values_are_copied(rt: HostRuntime) {
-    let alloc = rt.alloc();
-    let boxed = Boxed::new(alloc, text(&rt, alloc, "name")).expect(&rt, "memory");
-    let copy = boxed.try_clone(alloc).expect(&rt, "memory");
-    assert!(rt; copy == boxed);
-    let text = copy.into_inner();
-    assert!(rt; text.as_str() == "name");
+    bytes.push_slice(&[3]).expect(&rt, "memory");
+    assert!(rt; bytes.as_slice() == [1, 2, 3].as_slice());
+    is_copied::<Blob>(&rt, alloc, &bytes);
 }
 
 /// A list of one text.
@@ -316,16 +285,10 @@ fn names(rt: &impl Abort, alloc: Global) -> List<Text> {
 #[test]
 fn lists_are_copied(rt: HostRuntime) {
     let alloc = rt.alloc();
-    let names = names(&rt, alloc);
-    is_copied::<List<Text>>(&rt, alloc, &names);
-    let copy = clone_optional(&Some(names), alloc).expect(&rt, "memory");
-    assert!(rt; copy.is_some());
-    is_copied::<Trees>(&rt, alloc, &integers(&rt, alloc, &[(0x42000D, 1)]));
-}
-
-/// The buffer holds these bytes.
-fn holds(rt: &impl Abort, alloc: Global, out: &Buffer, hex: &str) {
-    assert!(rt; out.as_slice() == bytes_of(rt, alloc, hex).as_slice());
+    let names = Some(names(&rt, alloc));
+    let copy = clone_optional(&names, alloc).expect(&rt, "memory");
+    assert!(rt; copy == names);
+    is_copied::<Trees>(&rt, alloc, &version(&rt, alloc, 1, 0));
 }
 
 #[test]
@@ -334,14 +297,26 @@ fn a_buffer_has_the_items_put_into_it(rt: HostRuntime) {
     let mut out = Buffer::new(alloc);
     out.reserve(16).expect(&rt, "memory");
     out.put_item(Tag::of(0x42000D), Kind::ByteString, &[7]);
-    holds(&rt, alloc, &out, "42000D08000000010700000000000000");
+    are_bytes(
+        &rt,
+        alloc,
+        out.as_slice(),
+        "42000D08000000010700000000000000",
+    );
     out.reset(16).expect(&rt, "memory");
     out.put_four(Tag::of(0x42000D), Kind::Integer, 1);
-    holds(&rt, alloc, &out, "42000D02000000040000000100000000");
+    are_bytes(
+        &rt,
+        alloc,
+        out.as_slice(),
+        "42000D02000000040000000100000000",
+    );
     out.reset(24).expect(&rt, "memory");
     out.put_eight(Tag::of(0x420008), Kind::Boolean, 1);
-    holds(&rt, alloc, &out, "42000806000000080000000000000001");
-    out.wipe();
-    holds(&rt, alloc, &out, "");
-    assert!(rt; 24 <= out.spare());
+    are_bytes(
+        &rt,
+        alloc,
+        out.as_slice(),
+        "42000806000000080000000000000001",
+    );
 }

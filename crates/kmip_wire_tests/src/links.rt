@@ -1,50 +1,37 @@
 //! Links, sources and sinks at values that were worked out by hand.
 use kmip_link::{Link, LinkError, Sink, Source, StdSink, StdSource, StreamLink};
-use std::alloc::Global;
-use std::fmt::Debug;
 use std::io::{self, Read, Write};
 use std::process::Abort;
 
 /// What a call answers: how many bytes it moved.
 type Count = Result<usize, LinkError>;
 
-/// What a read answers, and the first byte of its room.
-type CountAndFirst = Result<(usize, u8), LinkError>;
-
 const FAULT: Count = Err(LinkError::Fault);
 
-fn read_link<L: Link>(link: &mut L, room: &mut [u8]) -> Count {
-    link.read(room)
-}
-
-/// The number of bytes that one read moves to room of 16 bytes, and the first of them.
-fn read_from_link<L: Link>(link: &mut L) -> CountAndFirst {
+/// A read to room of 16 bytes has this answer, and the room then begins with this byte.
+fn link_reads<L: Link>(rt: &impl Abort, link: &mut L, expected: Count, first: u8) {
     let mut room = [0u8; 16];
-    let count = read_link(link, &mut room)?;
-    Ok((count, room[0]))
+    let count = link.read(&mut room);
+    assert!(rt; count == expected && room[0] == first);
 }
 
-fn write_to_link<L: Link>(link: &mut L, bytes: &[u8]) -> Count {
-    link.write(bytes)
+/// A write of the bytes has this answer.
+fn link_writes<L: Link>(rt: &impl Abort, link: &mut L, bytes: &[u8], expected: Count) {
+    let count = link.write(bytes);
+    assert!(rt; count == expected);
 }
 
-fn read_source<S: Source>(source: &mut S, room: &mut [u8]) -> Count {
-    source.read(room)
-}
-
-fn read_from_source<S: Source>(source: &mut S) -> CountAndFirst {
+/// A read to room of 16 bytes has this answer, and the room then begins with this byte.
+fn source_reads<S: Source>(rt: &impl Abort, source: &mut S, expected: Count, first: u8) {
     let mut room = [0u8; 16];
-    let count = read_source(source, &mut room)?;
-    Ok((count, room[0]))
+    let count = source.read(&mut room);
+    assert!(rt; count == expected && room[0] == first);
 }
 
-fn write_to_sink<S: Sink>(sink: &mut S, bytes: &[u8]) -> Count {
-    sink.write(bytes)
-}
-
-/// What is had is what is expected.
-fn is_equal<T: PartialEq + Debug + Drop>(rt: &impl Abort, value: T, expected: T) {
-    assert_eq!(rt; value, expected);
+/// A write of the bytes has this answer.
+fn sink_writes<S: Sink>(rt: &impl Abort, sink: &mut S, bytes: &[u8], expected: Count) {
+    let count = sink.write(bytes);
+    assert!(rt; count == expected);
 }
 
 /// A reader and writer that fails at each call.
@@ -67,45 +54,37 @@ impl Write for Broken {
     }
 }
 
-/// A link over a text and a vector moves the bytes of both.
-fn a_stream_link_moves_bytes(rt: &impl Abort, text: &[u8], written: &mut Vec<u8>) {
-    let mut link = StreamLink::new(text, written);
-    is_equal(rt, write_to_link(&mut link, b"request"), Ok(7));
-    is_equal(rt, read_from_link(&mut link), Ok((8, b'r')));
-    is_equal(rt, read_from_link(&mut link), Ok((0, 0)));
-}
-
-/// A source over a text moves its bytes.
-fn a_std_source_moves_bytes(rt: &impl Abort, text: &[u8]) {
-    let mut source = StdSource::new(text);
-    is_equal(rt, read_from_source(&mut source), Ok((8, b'r')));
+/// A link over a text and room of seven bytes moves the bytes of both.
+fn a_stream_link_moves_bytes(rt: &impl Abort, text: &[u8], room: &mut [u8]) {
+    let mut link = StreamLink::new(text, room);
+    link_writes(rt, &mut link, b"request", Ok(7));
+    link_reads(rt, &mut link, Ok(8), b'r');
+    link_reads(rt, &mut link, Ok(0), 0);
 }
 
 /// A sink over room of three bytes takes no more, and reports a write that takes nothing.
 fn a_std_sink_takes_bytes(rt: &impl Abort, room: &mut [u8]) {
     let mut sink = StdSink::new(room);
-    is_equal(rt, write_to_sink(&mut sink, b"abcd"), Ok(3));
-    is_equal(rt, write_to_sink(&mut sink, b""), Ok(0));
-    is_equal(rt, write_to_sink(&mut sink, b"d"), FAULT);
-}
-
-/// A link, a source and a sink over what is broken report faults.
-fn broken_ones_report_faults(rt: &impl Abort) {
-    let mut broken = StreamLink::new(Broken, Broken);
-    is_equal(rt, write_to_link(&mut broken, b"d"), FAULT);
-    is_equal(rt, read_from_link(&mut broken), Err(LinkError::Fault));
-    let answer = read_from_source(&mut StdSource::new(Broken));
-    is_equal(rt, answer, Err(LinkError::Fault));
-    is_equal(rt, write_to_sink(&mut StdSink::new(Broken), b"d"), FAULT);
+    sink_writes(rt, &mut sink, b"abcd", Ok(3));
+    sink_writes(rt, &mut sink, b"", Ok(0));
+    sink_writes(rt, &mut sink, b"d", FAULT);
 }
 
 #[test]
-fn links_sources_and_sinks_over_std_move_bytes_and_report_faults(rt: HostRuntime) {
+fn links_sources_and_sinks_over_std_move_bytes(rt: HostRuntime) {
     let text: &[u8] = b"response";
-    let mut written = Vec::new(rt.alloc());
+    let mut written = [0u8; 7];
     a_stream_link_moves_bytes(&rt, text, &mut written);
-    assert_eq!(rt; written.as_slice(), b"request".as_slice());
-    a_std_source_moves_bytes(&rt, text);
-    a_std_sink_takes_bytes(&rt, &mut [0; 3]);
-    broken_ones_report_faults(&rt);
+    assert!(rt; written.as_slice() == b"request".as_slice());
+    source_reads(&rt, &mut StdSource::new(text), Ok(8), b'r');
+    a_std_sink_takes_bytes(&rt, &mut [0u8; 3]);
+}
+
+#[test]
+fn what_is_broken_reports_faults(rt: HostRuntime) {
+    let mut link = StreamLink::new(Broken, Broken);
+    link_writes(&rt, &mut link, b"d", FAULT);
+    link_reads(&rt, &mut link, FAULT, 0);
+    source_reads(&rt, &mut StdSource::new(Broken), FAULT, 0);
+    sink_writes(&rt, &mut StdSink::new(Broken), b"d", FAULT);
 }

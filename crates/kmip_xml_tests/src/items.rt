@@ -3,7 +3,7 @@
 use crate::messages::MESSAGES;
 use crate::vectors::VECTORS;
 use kmip_encodings::to_xml;
-use kmip_wire::{read_tree, write_tree};
+use kmip_wire::{Tree, read_tree, write_tree};
 use kmip_xml::from_xml;
 use std::alloc::Global;
 use std::process::Abort;
@@ -151,14 +151,19 @@ const ROWS: &[(&str, &str)] = &[
     ),
 ];
 
-/// This XML is read as the item of these bytes in hex. Here and below each function ends the run where
-/// something is wrong, so that no test has a way out at which it drops the values that it holds.
+/// The item has these bytes in hex, as a text of it says. Here and below each function ends the run
+/// where something is wrong, so that no test has a way out at which it drops the values that it holds.
+pub(crate) fn is_item(rt: &impl Abort, alloc: Global, tree: &Tree, digits: &str, text: &str) {
+    let bytes = write_tree(alloc, tree).expect(rt, text);
+    let found = hex::encode_upper(alloc, bytes.as_slice()).expect(rt, "memory");
+    assert!(rt; found.as_str() == digits, "{text}");
+}
+
+/// This XML is read as the item of these bytes in hex.
 fn is_read(rt: &impl Abort, alloc: Global, xml: &str, digits: &str) {
     let tree = from_xml(alloc, xml).ok().expect(rt, xml);
-    let bytes = write_tree(alloc, &tree).expect(rt, xml);
+    is_item(rt, alloc, &tree, digits, xml);
     drop(tree);
-    let found = hex::encode_upper(alloc, bytes.as_slice()).expect(rt, "memory");
-    assert_eq!(rt; found.as_str(), digits, "{xml}");
 }
 
 #[test]

@@ -1,6 +1,6 @@
 //! Why texts are refused, and where.
-use kmip_encodings::push_refusal;
-use kmip_wire::{OutOfMemory, Text};
+use kmip_encodings::{Refusal, push_refusal};
+use kmip_wire::Text;
 use kmip_xml::{from_xml, refusal_of};
 use std::alloc::Global;
 use std::process::Abort;
@@ -129,21 +129,20 @@ const ROWS: &[(&str, &str)] = &[
     ),
 ];
 
-/// Why the text is not read; empty where it is.
-fn sentence(alloc: Global, text: &str) -> Result<Text, OutOfMemory> {
-    let mut out = Text::new(alloc);
-    match from_xml(alloc, text) {
-        Ok(_tree) => Ok(out),
-        Err(error) => {
-            push_refusal(&mut out, &refusal_of(alloc, text, &error)?)?;
-            Ok(out)
-        }
-    }
+/// The text is not read, and this is said of it.
+fn is_refused(rt: &impl Abort, alloc: Global, text: &str, why: &str) {
+    let error = from_xml(alloc, text).err().expect(rt, text);
+    let refusal = refusal_of(alloc, text, &error).expect(rt, "memory");
+    drop(error);
+    is_said(rt, alloc, text, &refusal, why);
+    drop(refusal);
 }
 
-fn is_refused(rt: &impl Abort, alloc: Global, text: &str, why: &str) {
-    let found = sentence(alloc, text).expect(rt, "memory");
-    assert_eq!(rt; found.as_str(), why, "{text}");
+/// This is said of the refusal of the text.
+pub(crate) fn is_said(rt: &impl Abort, alloc: Global, text: &str, refusal: &Refusal, why: &str) {
+    let mut said = Text::new(alloc);
+    push_refusal(&mut said, refusal).expect(rt, "memory");
+    assert_eq!(rt; said.as_str(), why, "{text}");
 }
 
 #[test]
@@ -154,26 +153,18 @@ fn texts_are_refused(rt: HostRuntime) {
 }
 
 /// Opens so many structures, one in the other, and closes them.
-fn nested(alloc: Global, levels: usize) -> Result<Text, OutOfMemory> {
-    let mut out = Text::new(alloc);
-    for _ in 0..levels {
-        out.push_str("<BatchItem>")?;
-    }
-    for _ in 0..levels {
-        out.push_str("</BatchItem>")?;
-    }
-    Ok(out)
+fn nested(rt: &impl Abort, alloc: Global, levels: usize) -> String {
+    let mut text = "<BatchItem>".repeat(alloc, levels).expect(rt, "memory");
+    let close = "</BatchItem>".repeat(alloc, levels).expect(rt, "memory");
+    text.push_str(close.as_str()).expect(rt, "memory");
+    text
 }
 
 #[test]
 fn levels_are_counted(rt: HostRuntime) {
-    let most = nested(rt.alloc(), 64).expect(&rt, "memory");
-    assert!(&rt; from_xml(rt.alloc(), most.as_str()).is_ok());
-    let deeper = nested(rt.alloc(), 65).expect(&rt, "memory");
-    is_refused(
-        &rt,
-        rt.alloc(),
-        deeper.as_str(),
-        "line 1, column 706: expected at most 64 levels of items, found a B",
-    );
+    let most = nested(&rt, rt.alloc(), 64);
+    assert!(rt; from_xml(rt.alloc(), most.as_str()).err().is_none());
+    let deeper = nested(&rt, rt.alloc(), 65);
+    let why = "line 1, column 706: expected at most 64 levels of items, found a B";
+    is_refused(&rt, rt.alloc(), deeper.as_str(), why);
 }

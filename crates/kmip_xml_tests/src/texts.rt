@@ -1,6 +1,6 @@
 //! Texts of XML and of JSON are told apart by their first mark.
-use kmip_encodings::push_refusal;
-use kmip_wire::{OutOfMemory, Text, write_tree};
+use crate::items::is_item;
+use crate::refusals::is_said;
 use kmip_xml::{from_text, text_refusal_of};
 use std::alloc::Global;
 use std::process::Abort;
@@ -27,16 +27,11 @@ const REFUSED: &[(&str, &str)] = &[
     ),
 ];
 
+/// The text is read as that item.
 fn is_read(rt: &impl Abort, alloc: Global, text: &str) {
     let tree = from_text(alloc, text).ok().expect(rt, text);
-    let bytes = write_tree(alloc, &tree).expect(rt, text);
+    is_item(rt, alloc, &tree, "42000D02000000040000000100000000", text);
     drop(tree);
-    let found = hex::encode_upper(alloc, bytes.as_slice()).expect(rt, "memory");
-    assert_eq!(rt;
-        found.as_str(),
-        "42000D02000000040000000100000000",
-        "{text}"
-    );
 }
 
 #[test]
@@ -46,21 +41,13 @@ fn both_are_read(rt: HostRuntime) {
     }
 }
 
-/// Why the text is not read; empty where it is.
-fn sentence(alloc: Global, text: &str) -> Result<Text, OutOfMemory> {
-    let mut out = Text::new(alloc);
-    match from_text(alloc, text) {
-        Ok(_tree) => Ok(out),
-        Err(error) => {
-            push_refusal(&mut out, &text_refusal_of(alloc, text, &error)?)?;
-            Ok(out)
-        }
-    }
-}
-
+/// The text is not read, and this is said of it.
 fn is_refused(rt: &impl Abort, alloc: Global, text: &str, why: &str) {
-    let found = sentence(alloc, text).expect(rt, "memory");
-    assert_eq!(rt; found.as_str(), why, "{text}");
+    let error = from_text(alloc, text).err().expect(rt, text);
+    let refusal = text_refusal_of(alloc, text, &error).expect(rt, "memory");
+    drop(error);
+    is_said(rt, alloc, text, &refusal, why);
+    drop(refusal);
 }
 
 #[test]
