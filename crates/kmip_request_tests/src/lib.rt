@@ -1,4 +1,5 @@
-//! Tests of requests, written and read, and of what they say of objects. They stand above those crates, so that each crate is proved once.
+//! Tests of requests, written and read, and of what they say of objects. They stand above those
+//! crates, so that each crate is proved once.
 #![tactic(auto)]
 
 #[cfg(test)]
@@ -7,3 +8,5 @@ mod attributes;
 mod reading;
 #[cfg(test)]
 mod requests;
+#[cfg(test)]
+mod support;

@@ -1,7 +1,10 @@
 //! Each request is written as its canonical bytes.
 //!
-//! Memory is ample, so what makes a payload here has no error to pass on: that keeps the proof of these functions short.
+//! Memory is ample, so what makes a payload here has no error to pass on: that keeps the proof of
+//! these functions short.
 
+use crate::reading::{LOCATE, WITH_A_CREDENTIAL};
+use crate::support::{are, blob, is_copied, read, text};
 use bitflags::Flags;
 use kmip_enums::{ObjectType, RevocationReasonCode};
 use kmip_request::{
@@ -11,8 +14,6 @@ use kmip_request::{
     PrivateKeyTemplateAttribute, PublicKeyTemplateAttribute, RequestPayload, RevocationReason,
     SymmetricKey, TemplateAttribute, to_vec, write_request_into,
 };
-use kmip_request_read::from_slice;
-use kmip_test_messages::message;
 use kmip_types::auth::{CredentialType, UsernameAndPasswordCredential};
 use kmip_types::{
     AttributeIndex, AttributeName, AttributeValue, BlockCipherMode, CompromiseOccurrenceDate,
@@ -20,103 +21,9 @@ use kmip_types::{
     Data, HashingAlgorithm, KeyCompressionType, KeyFormatType, KeyMaterial, PaddingMethod,
     RevocationMessage, UniqueIdentifier, Values, WrappingMethod,
 };
-use kmip_wire::{Blob, Boxed, Buffer, List, OutOfMemory, Text, TryClone, WireError};
-use std::alloc::AllocGlobal;
+use kmip_wire::{Boxed, Buffer, List, OutOfMemory, WireError};
+use std::alloc::Global;
 use std::process::Abort;
-
-/// What was made.
-fn made<T: Drop>(rt: &(impl Abort + AllocGlobal), memory: Result<T, OutOfMemory>) -> T {
-    memory.expect(rt, "memory")
-}
-
-/// The bytes are these, in the notation.
-fn are(rt: &(impl Abort + AllocGlobal), bytes: &[u8], notation: &str) {
-    let expected = message(rt.alloc(), notation).expect(rt, "the notation");
-    assert!(rt; bytes == expected.as_slice());
-}
-
-/// The payload has a copy that equals it, and its request is written as these bytes.
-fn is_written(rt: &(impl Abort + AllocGlobal), payload: RequestPayload, notation: &str) {
-    assert!(rt; made(rt, payload.try_clone(rt.alloc())) == payload);
-    let written = to_vec(rt.alloc(), payload, None).expect(rt, "a form");
-    are(rt, written.as_slice(), notation);
-}
-
-/// The request has no form.
-fn has_no_form(rt: &(impl Abort + AllocGlobal), payload: RequestPayload) {
-    assert!(rt; to_vec(rt.alloc(), payload, None) == Err(WireError::NoForm));
-}
-
-fn text(rt: &(impl Abort + AllocGlobal), text: &str) -> Text {
-    made(rt, Text::of(rt.alloc(), text))
-}
-
-fn blob(rt: &(impl Abort + AllocGlobal), bytes: &[u8]) -> Blob {
-    made(rt, Blob::of(rt.alloc(), bytes))
-}
-
-fn id(rt: &(impl Abort + AllocGlobal), id: &str) -> UniqueIdentifier {
-    UniqueIdentifier(text(rt, id))
-}
-
-fn name(rt: &(impl Abort + AllocGlobal), name: &str) -> AttributeName {
-    AttributeName(text(rt, name))
-}
-
-/// A list of these items.
-fn list<T: Drop, const N: usize>(rt: &(impl Abort + AllocGlobal), items: [T; N]) -> List<T> {
-    List::of_vec(Vec::from_array(rt.alloc(), items).expect(rt, "memory"))
-}
-
-/// An attribute of a type that has a name of its own.
-fn length(rt: &(impl Abort + AllocGlobal), bits: i32) -> Attribute {
-    made(rt, Attribute::CryptographicLength(rt.alloc(), bits))
-}
-
-fn algorithm(rt: &(impl Abort + AllocGlobal), algorithm: CryptographicAlgorithm) -> Attribute {
-    made(rt, Attribute::CryptographicAlgorithm(rt.alloc(), algorithm))
-}
-
-fn usage(rt: &(impl Abort + AllocGlobal), mask: CryptographicUsageMask) -> Attribute {
-    made(rt, Attribute::CryptographicUsageMask(rt.alloc(), mask))
-}
-
-fn named(rt: &(impl Abort + AllocGlobal), name: &str) -> Attribute {
-    made(rt, Attribute::Name(rt.alloc(), text(rt, name)))
-}
-
-fn group(rt: &(impl Abort + AllocGlobal), group: &str) -> Attribute {
-    made(rt, Attribute::ObjectGroup(rt.alloc(), text(rt, group)))
-}
-
-fn private_keys(rt: &(impl Abort + AllocGlobal)) -> List<Attribute> {
-    list(
-        rt,
-        [made(
-            rt,
-            Attribute::ObjectType(rt.alloc(), ObjectType::PrivateKey),
-        )],
-    )
-}
-
-fn boxed<T: Drop>(rt: &(impl Abort + AllocGlobal), value: T) -> Boxed<T> {
-    made(rt, Boxed::new(rt.alloc(), value))
-}
-
-/// A key block of this format that holds no more than this material.
-fn block(
-    rt: &(impl Abort + AllocGlobal),
-    format: KeyFormatType,
-    material: KeyMaterial,
-) -> Boxed<KeyBlock> {
-    let value = KeyValue(material, None);
-    boxed(rt, KeyBlock(format, None, Some(value), None, None, None))
-}
-
-/// A Register of this object with no attributes.
-fn register(object_type: ObjectType, object: ManagedObject) -> RequestPayload {
-    RequestPayload::Register(object_type, TemplateAttribute(None, None), Some(object))
-}
 
 /// Requests, each with its name.
 const REQUESTS: &[(&str, &str)] = &[
@@ -164,19 +71,42 @@ const REQUESTS: &[(&str, &str)] = &[
     ("RNG Retrieve", "REQ2(25, C4 i16)"),
 ];
 
+/// The payload of this name has a copy that equals it, and its request is written as these bytes.
+fn is_written(rt: &impl Abort, alloc: Global, name: &str, payload: RequestPayload, notation: &str) {
+    is_copied::<RequestPayload>(rt, alloc, name, &payload);
+    let written = to_vec(alloc, payload, None).expect(rt, name);
+    are(rt, alloc, written.as_slice(), notation);
+}
+
 /// The bytes are read as a request without a credential that is written as the same bytes.
-fn is_read_and_written(rt: &(impl Abort + AllocGlobal), name: &str, notation: &str) {
-    let bytes = message(rt.alloc(), notation).expect(rt, name);
-    let (payload, credential) = from_slice(rt.alloc(), &bytes).expect(rt, name);
+fn is_read_and_written(rt: &impl Abort, alloc: Global, name: &str, notation: &str) {
+    let (payload, credential) = read(rt, alloc, notation);
     assert!(rt; credential.is_none(), "{name}");
-    is_written(rt, payload, notation);
+    is_written(rt, alloc, name, payload, notation);
 }
 
 #[test]
 fn requests_are_read_and_written(rt: HostRuntime) {
     for (name, notation) in REQUESTS {
-        is_read_and_written(&rt, name, notation);
+        is_read_and_written(&rt, rt.alloc(), name, notation);
     }
+}
+
+fn id(rt: &impl Abort, alloc: Global, id: &str) -> UniqueIdentifier {
+    UniqueIdentifier(text(rt, alloc, id))
+}
+
+/// The attributes, and one more at the end.
+fn and(
+    rt: &impl Abort,
+    attributes: List<Attribute>,
+    more: Result<Attribute, OutOfMemory>,
+) -> List<Attribute> {
+    let mut attributes = attributes;
+    attributes
+        .push(more.expect(rt, "memory"))
+        .expect(rt, "memory");
+    attributes
 }
 
 const CREATE: &str =
@@ -184,18 +114,19 @@ const CREATE: &str =
 
 #[test]
 fn create(rt: HostRuntime) {
+    let alloc = rt.alloc();
+    let algorithm = Attribute::CryptographicAlgorithm(alloc, CryptographicAlgorithm::AES);
+    let attributes = and(&rt, List::new(alloc), algorithm);
+    let attributes = and(&rt, attributes, Attribute::CryptographicLength(alloc, 128));
     let uses = CryptographicUsageMask::Encrypt.union(CryptographicUsageMask::Decrypt);
-    let attributes = list(
+    let attributes = and(
         &rt,
-        [
-            algorithm(&rt, CryptographicAlgorithm::AES),
-            length(&rt, 128),
-            usage(&rt, uses),
-        ],
+        attributes,
+        Attribute::CryptographicUsageMask(alloc, uses),
     );
     let template = TemplateAttribute::unnamed(attributes);
     let payload = RequestPayload::Create(ObjectType::SymmetricKey, template);
-    is_written(&rt, payload, CREATE);
+    is_written(&rt, alloc, "create", payload, CREATE);
 }
 
 const CREATE_KEY_PAIR: &str =
@@ -203,16 +134,22 @@ const CREATE_KEY_PAIR: &str =
 
 #[test]
 fn create_key_pair(rt: HostRuntime) {
-    let common = list(&rt, [length(&rt, 2048)]);
-    let private = list(&rt, [named(&rt, "a")]);
-    let public = list(&rt, [made(&rt, Attribute::URI(rt.alloc(), text(&rt, "b")))]);
-    let private = PrivateKeyTemplateAttribute::named(rt.alloc(), text(&rt, "t"), private);
-    let payload = RequestPayload::CreateKeyPair(
-        Some(CommonTemplateAttribute::unnamed(common)),
-        Some(made(&rt, private)),
-        Some(PublicKeyTemplateAttribute::unnamed(public)),
-    );
-    is_written(&rt, payload, CREATE_KEY_PAIR);
+    let alloc = rt.alloc();
+    let length = Attribute::CryptographicLength(alloc, 2048);
+    let common = CommonTemplateAttribute::unnamed(and(&rt, List::new(alloc), length));
+    let name = Attribute::Name(alloc, text(&rt, alloc, "a"));
+    let private = and(&rt, List::new(alloc), name);
+    let private = PrivateKeyTemplateAttribute::named(alloc, text(&rt, alloc, "t"), private);
+    let private = private.expect(&rt, "memory");
+    let name = Attribute::URI(alloc, text(&rt, alloc, "b"));
+    let public = PublicKeyTemplateAttribute::unnamed(and(&rt, List::new(alloc), name));
+    let payload = RequestPayload::CreateKeyPair(Some(common), Some(private), Some(public));
+    is_written(&rt, alloc, "create key pair", payload, CREATE_KEY_PAIR);
+}
+
+/// A Register of this object with no attributes.
+fn register(object_type: ObjectType, object: ManagedObject) -> RequestPayload {
+    RequestPayload::Register(object_type, TemplateAttribute(None, None), Some(object))
 }
 
 const REGISTER_A_KEY: &str =
@@ -220,153 +157,187 @@ const REGISTER_A_KEY: &str =
 
 #[test]
 fn register_a_key(rt: HostRuntime) {
+    let alloc = rt.alloc();
     let wrapping = KeyWrappingData(
         WrappingMethod::Encrypt,
-        Some(EncryptionKeyInformation(id(&rt, "w1"), None)),
+        Some(EncryptionKeyInformation(id(&rt, alloc, "w1"), None)),
         None,
-        Some(MACOrSignature::new(blob(&rt, b"\xAA"))),
-        Some(IVOrCounterOrNonce::new(blob(&rt, b"\xBB"))),
+        Some(MACOrSignature::new(blob(&rt, alloc, b"\xAA"))),
+        Some(IVOrCounterOrNonce::new(blob(&rt, alloc, b"\xBB"))),
         None,
     );
     let block = KeyBlock(
         KeyFormatType::Raw,
         None,
-        Some(KeyValue(KeyMaterial::Bytes(blob(&rt, b"\xCC")), None)),
+        Some(KeyValue(KeyMaterial::Bytes(blob(&rt, alloc, b"\xCC")), None)),
         Some(CryptographicAlgorithm::AES),
         Some(CryptographicLength(8)),
         Some(wrapping),
     );
-    let key = ManagedObject::SymmetricKey(SymmetricKey(boxed(&rt, block)));
-    is_written(&rt, register(ObjectType::SymmetricKey, key), REGISTER_A_KEY);
+    let block = Boxed::new(alloc, block).expect(&rt, "memory");
+    let payload = register(
+        ObjectType::SymmetricKey,
+        ManagedObject::SymmetricKey(SymmetricKey(block)),
+    );
+    is_written(&rt, alloc, "register a key", payload, REGISTER_A_KEY);
 }
-
-const LOCATE: &str = r#"REQ0(8, 08{0A "Object Type",0B e4})"#;
 
 const GET: &str = r#"REQ0(A, 94 "k1",42 e1,41 e1,47{9E e1,36{94 "w1",2B{11 eD}},4E{94 "w2"}})"#;
 
 #[test]
 fn get(rt: HostRuntime) {
+    let alloc = rt.alloc();
     let parameters = CryptographicParameters::default().with_block_cipher_mode(
         BlockCipherMode::NISTKeyWrap,
     );
     let specification = KeyWrappingSpecification(
         WrappingMethod::Encrypt,
-        Some(EncryptionKeyInformation(id(&rt, "w1"), Some(parameters))),
-        Some(MACOrSignatureKeyInformation(id(&rt, "w2"), None)),
+        Some(EncryptionKeyInformation(id(&rt, alloc, "w1"), Some(parameters))),
+        Some(MACOrSignatureKeyInformation(id(&rt, alloc, "w2"), None)),
         None,
     );
     let payload = RequestPayload::Get(
-        Some(id(&rt, "k1")),
+        Some(id(&rt, alloc, "k1")),
         Some(KeyFormatType::Raw),
         Some(KeyCompressionType::ECPUblicKeyTypeUncompressed),
-        Some(boxed(&rt, specification)),
+        Some(Boxed::new(alloc, specification).expect(&rt, "memory")),
     );
-    is_written(&rt, payload, GET);
+    is_written(&rt, alloc, "get", payload, GET);
 }
 
 const AN_EMPTY_LIST_WRITES_NOTHING: &str = "REQ0(B, )";
 
 #[test]
 fn an_empty_list_writes_nothing(rt: HostRuntime) {
-    let payload = RequestPayload::GetAttributes(None, Some(List::new(rt.alloc())));
-    is_written(&rt, payload, AN_EMPTY_LIST_WRITES_NOTHING);
+    let alloc = rt.alloc();
+    let payload = RequestPayload::GetAttributes(None, Some(List::new(alloc)));
+    is_written(
+        &rt,
+        alloc,
+        "an empty list",
+        payload,
+        AN_EMPTY_LIST_WRITES_NOTHING,
+    );
 }
 
 const DELETE_ATTRIBUTE: &str = r#"REQ0(F, 94 "k1",0A "x-a",09 i1)"#;
 
 #[test]
 fn delete_attribute(rt: HostRuntime) {
-    let index = Some(AttributeIndex(1));
-    let payload = RequestPayload::DeleteAttribute(Some(id(&rt, "k1")), name(&rt, "x-a"), index);
-    is_written(&rt, payload, DELETE_ATTRIBUTE);
+    let alloc = rt.alloc();
+    let name = AttributeName(text(&rt, alloc, "x-a"));
+    let payload = RequestPayload::DeleteAttribute(
+        Some(id(&rt, alloc, "k1")),
+        name,
+        Some(AttributeIndex(1)),
+    );
+    is_written(&rt, alloc, "delete attribute", payload, DELETE_ATTRIBUTE);
 }
 
 const REVOKE: &str = r#"REQ0(13, 94 "k1",81{82 e6,80 "why"},21 d5)"#;
 
 #[test]
 fn revoke(rt: HostRuntime) {
-    let message = RevocationMessage(text(&rt, "why"));
+    let alloc = rt.alloc();
+    let message = RevocationMessage(text(&rt, alloc, "why"));
     let reason = RevocationReason(RevocationReasonCode::CessationOfOperation, Some(message));
-    let date = Some(CompromiseOccurrenceDate(5));
-    let payload = RequestPayload::Revoke(Some(id(&rt, "k1")), reason, date);
-    is_written(&rt, payload, REVOKE);
+    let payload = RequestPayload::Revoke(
+        Some(id(&rt, alloc, "k1")),
+        reason,
+        Some(CompromiseOccurrenceDate(5)),
+    );
+    is_written(&rt, alloc, "revoke", payload, REVOKE);
 }
 
 const SIGN: &str = r#"REQ2(21, 94 "k1",2B{5F e8,38 e6,28 e4},C2 x0102)"#;
 
 #[test]
 fn sign(rt: HostRuntime) {
+    let alloc = rt.alloc();
     let parameters = CryptographicParameters::default()
         .with_padding_method(PaddingMethod::PKCS1_v1_5)
         .with_hashing_algorithm(HashingAlgorithm::SHA256)
         .with_cryptographic_algorithm(CryptographicAlgorithm::RSA);
-    let data = Data(blob(&rt, b"\x01\x02"));
-    let payload = RequestPayload::Sign(Some(id(&rt, "k1")), Some(parameters), data);
-    is_written(&rt, payload, SIGN);
+    let data = Data(blob(&rt, alloc, b"\x01\x02"));
+    let payload = RequestPayload::Sign(Some(id(&rt, alloc, "k1")), Some(parameters), data);
+    is_written(&rt, alloc, "sign", payload, SIGN);
 }
 
-const WITH_A_CREDENTIAL: &str =
-    r#"78{77{69{6A i1,6B i0},0C{23{24 e1,25{99 "alice",A1 "secret"}}},0D i1},0F{5C e8,79{08{0A "Object Type",0B e4}}}}"#;
-
-#[test]
-fn with_a_credential(rt: HostRuntime) {
-    let user = UsernameAndPasswordCredential::new(text(&rt, "alice"), Some(text(&rt, "secret")));
-    let credential = Some(CredentialType::UsernameAndPassword(user));
-    let payload = RequestPayload::Locate(private_keys(&rt));
-    let written = to_vec(rt.alloc(), payload, credential).expect(&rt, "a form");
-    are(&rt, written.as_slice(), WITH_A_CREDENTIAL);
+/// The request has no form.
+fn has_no_form(rt: &impl Abort, alloc: Global, payload: RequestPayload) {
+    let error = to_vec(alloc, payload, None).err();
+    assert!(rt; error == Some(WireError::NoForm));
 }
 
-/// An attribute of this value has no form.
-fn attribute_has_no_form(rt: &(impl Abort + AllocGlobal), value: AttributeValue) {
-    let attributes = list(rt, [Attribute(name(rt, "x-a"), None, value)]);
-    has_no_form(rt, RequestPayload::Locate(attributes));
+/// A request with an attribute of this value has no form.
+fn attribute_has_no_form(rt: &impl Abort, alloc: Global, value: AttributeValue) {
+    let name = AttributeName(text(rt, alloc, "x-a"));
+    let attributes = and(rt, List::new(alloc), Ok(Attribute(name, None, value)));
+    has_no_form(rt, alloc, RequestPayload::Locate(attributes));
 }
 
 #[test]
 fn without_a_form(rt: HostRuntime) {
-    let mut members = Values::new(rt.alloc());
-    let _ = members.push(AttributeValue::Structure(Values::new(rt.alloc())));
-    attribute_has_no_form(&rt, AttributeValue::Structure(members));
-    attribute_has_no_form(&rt, AttributeValue::BigInteger(blob(&rt, &[0; 7])));
+    let alloc = rt.alloc();
+    let mut members = Values::new(alloc);
+    let member = AttributeValue::Structure(Values::new(alloc));
+    members.push(member).expect(&rt, "memory");
+    attribute_has_no_form(&rt, alloc, AttributeValue::Structure(members));
+    let number = AttributeValue::BigInteger(blob(&rt, alloc, &[0; 7]));
+    attribute_has_no_form(&rt, alloc, number);
 }
 
 #[test]
 fn wrapped_material_has_no_form(rt: HostRuntime) {
-    let block = block(
-        &rt,
-        KeyFormatType::Raw,
-        KeyMaterial::Wrapped(blob(&rt, b"\xAA")),
-    );
+    let alloc = rt.alloc();
+    let material = KeyMaterial::Wrapped(blob(&rt, alloc, b"\xAA"));
+    let value = Some(KeyValue(material, None));
+    let block = KeyBlock(KeyFormatType::Raw, None, value, None, None, None);
+    let block = Boxed::new(alloc, block).expect(&rt, "memory");
     let key = ManagedObject::PrivateKey(PrivateKey(block));
-    has_no_form(&rt, register(ObjectType::PrivateKey, key));
+    has_no_form(&rt, alloc, register(ObjectType::PrivateKey, key));
 }
 
 /// What is written into a buffer stands in place of what it held.
 fn is_written_into(
-    rt: &(impl Abort + AllocGlobal),
+    rt: &impl Abort,
+    alloc: Global,
     payload: &RequestPayload,
     authentication: &Option<Authentication>,
     out: &mut Buffer,
     notation: &str,
 ) {
-    write_request_into(payload, authentication, out).expect(rt, "a form");
-    are(rt, out.as_slice(), notation);
+    write_request_into(payload, authentication, out).expect(rt, notation);
+    are(rt, alloc, out.as_slice(), notation);
+}
+
+/// The authentication by this username and password.
+fn authentication(
+    rt: &impl Abort,
+    alloc: Global,
+    username: &str,
+    password: &str,
+) -> Option<Authentication> {
+    let password = Some(text(rt, alloc, password));
+    let user = UsernameAndPasswordCredential::new(text(rt, alloc, username), password);
+    Some(Authentication::build(CredentialType::UsernameAndPassword(user)))
 }
 
 #[test]
 fn one_buffer_for_three_requests(rt: HostRuntime) {
-    let user = UsernameAndPasswordCredential::new(text(&rt, "alice"), Some(text(&rt, "secret")));
-    let authentication = Authentication::build(CredentialType::UsernameAndPassword(user));
-    let payload = RequestPayload::Locate(private_keys(&rt));
-    let mut out = Buffer::new(rt.alloc());
-    is_written_into(&rt, &payload, &None, &mut out, LOCATE);
+    let alloc = rt.alloc();
+    let authentication = authentication(&rt, alloc, "alice", "secret");
+    let (payload, _) = read(&rt, alloc, LOCATE);
+    let mut out = Buffer::new(alloc);
+    is_written_into(&rt, alloc, &payload, &None, &mut out, LOCATE);
     is_written_into(
         &rt,
+        alloc,
         &payload,
-        &Some(authentication),
+        &authentication,
         &mut out,
         WITH_A_CREDENTIAL,
     );
-    is_written_into(&rt, &payload, &None, &mut out, LOCATE);
+    is_written_into(&rt, alloc, &payload, &None, &mut out, LOCATE);
+    drop(payload);
 }
