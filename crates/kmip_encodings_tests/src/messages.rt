@@ -6,8 +6,8 @@ pub(crate) struct Row {
     pub(crate) json: &'static str,
 }
 
-/// The items of KMIP 1.0, 9.1.2, each with the tag 0x420020, and then whole messages.
-pub(crate) const ITEMS: &[Row] = &[
+/// The items of KMIP 1.0, 9.1.2, each with the tag 0x420020.
+pub(crate) const EXAMPLES: &[Row] = &[
     Row {
         hex: "42002002000000040000000800000000",
         json: r#"{"tag":"CompromiseDate","type":"Integer","value":8}"#,
@@ -48,6 +48,10 @@ pub(crate) const ITEMS: &[Row] = &[
         hex: "42002001000000204200040500000004000000FE000000004200050200000004000000FF00000000",
         json: r#"{"tag":"CompromiseDate","value":[{"tag":"ApplicationSpecificInformation","type":"Enumeration","value":"0x000000FE"},{"tag":"ArchiveDate","type":"Integer","value":255}]}"#,
     },
+];
+
+/// Whole messages.
+pub(crate) const MESSAGES: &[Row] = &[
     // Locate by an Object Type.
     Row {
         hex: "42007801000000904200770100000038420069010000002042006A0200000004000000010000000042006B0200000004000000000000000042000D0200000004000000010000000042000F010000004842005C050000000400000008000000004200790100000030420008010000002842000A070000000B4F626A6563742054797065000000000042000B05000000040000000400000000",

@@ -1,13 +1,12 @@
 //! JSON with offsets, which were counted by hand.
-ghost use Rattle.std.specs.Prelude.{◌≤◌, length};
+ghost use Rattle.std.specs.Prelude.{◌≤◌, IfOk, length};
 ghost use Rattle.kmip_encodings.specs.Sizes.{size_of};
 
-use crate::json::is_text;
 use kmip_encodings::to_json_with_offsets;
 use kmip_wire::{Tree, read_tree};
 use std::alloc::Global;
-use std::process::Abort;
 use std::str;
+use std::test::Fail;
 
 /// An item as bytes in hex, where it begins, and its JSON with offsets.
 struct Row {
@@ -37,27 +36,25 @@ const ROWS: &[Row] = &[
 ];
 
 /// The item at the front, which is no longer than the bytes.
-fn front(rt: &impl Abort, alloc: Global, bytes: &[u8]) -> Tree
-    ensures { size_of result ≤ length bytes.now }
+fn front(alloc: Global, bytes: &[u8]) -> Result<Tree, Fail>
+    ensures { IfOk result (λ tree. size_of tree ≤ length bytes.now) }
 {
-    let (tree, _) = read_tree(alloc, bytes).expect(rt, "an item");
-    tree
-}
-
-/// The item of the row is written as its JSON.
-fn is_written(rt: &impl Abort, alloc: Global, row: &Row) {
-    let bytes = hex::decode(alloc, row.hex).expect(rt, "hex");
-    assert!(rt; bytes.len() < 4096 && row.start < 1 << 62);
-    let tree = front(rt, alloc, &bytes);
-    let mut text = Vec::new(alloc);
-    to_json_with_offsets(alloc, &tree, row.start, &mut text).expect(rt, "memory");
-    drop(tree);
-    is_text(rt, str::from_utf8(&text).expect(rt, "UTF-8"), row.json);
+    match read_tree(alloc, bytes) {
+        Ok((tree, _)) => Ok(tree),
+        Err(error) => Err(Fail::from(error)),
+    }
 }
 
 #[test]
-fn each_item_has_its_offset(rt: HostRuntime) {
+fn each_item_has_its_offset(rt: HostRuntime) -> Result<(), Fail> {
+    let alloc = rt.alloc();
     for row in ROWS {
-        is_written(&rt, rt.alloc(), row);
+        let bytes = hex::decode(alloc, row.hex)?;
+        let tree = front(alloc, &bytes)?;
+        assert!(rt; bytes.len() < 4096 && row.start < 1 << 62);
+        let mut text = Vec::new(alloc);
+        to_json_with_offsets(alloc, &tree, row.start, &mut text)?;
+        assert_eq!(rt; str::from_utf8(&text), Ok(row.json));
     }
+    Ok(())
 }

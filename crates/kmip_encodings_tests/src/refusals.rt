@@ -1,13 +1,16 @@
 //! What is refused, with its place and what was expected, and the other forms that are read.
 use crate::json::is_read;
-use kmip_encodings::{EncodingError, Expected, from_json};
+use kmip_encodings::{EncodingError, Expected, Fault, from_json};
 use kmip_wire::Kind;
 use std::alloc::Global;
 use std::process::Abort;
 
-/// Why a text is not read.
-fn refusal_of(rt: &impl Abort, alloc: Global, text: &str) -> EncodingError {
-    from_json(alloc, text).err().expect(rt, text)
+/// Where an item stands that is none, the innermost index first, and what was expected there.
+fn misfit(alloc: Global, text: &str) -> Option<Fault> {
+    match from_json(alloc, text) {
+        Err(EncodingError::Misfit(fault)) => Some(fault),
+        _ => None,
+    }
 }
 
 /// A text with its misfit.
@@ -200,21 +203,12 @@ const ROWS: &[Row] = &[
     },
 ];
 
-/// Whether an item is none, at this place and with this expected there.
-fn is_misfit(error: &EncodingError, place: &[usize], expected: Expected) -> bool {
-    match error {
-        EncodingError::Misfit(fault) => {
-            fault.place.as_slice() == place && fault.expected == expected
-        }
-        _ => false,
-    }
-}
-
 /// The text of a row is refused at its place.
 fn is_refused(rt: &impl Abort, alloc: Global, row: &Row) {
-    let error = refusal_of(rt, alloc, row.text);
-    assert!(rt; is_misfit(&error, row.place, row.expected), "{}", row.text);
-    drop(error);
+    let fault = misfit(alloc, row.text).expect(rt, row.text);
+    assert_eq!(rt; fault.place.as_slice(), row.place, "{}", row.text);
+    assert_eq!(rt; fault.expected, row.expected, "{}", row.text);
+    drop(fault);
 }
 
 #[test]
@@ -224,58 +218,42 @@ fn what_is_no_item_is_refused(rt: HostRuntime) {
     }
 }
 
-/// Why a text is no JSON: where it stops being one, where it nests too deep, or a name that an
-/// object has twice.
-#[derive(Clone, Copy, PartialEq, Eq)]
-enum Stop {
-    Json(usize),
-    Depth(usize),
-    Twice,
-    Other,
-}
+/// Texts that are no JSON, and the place where each stops being one.
+const NO_JSON: &[(&str, usize)] = &[
+    ("", 0),
+    (r#"{"tag":"BatchCount","type":"Integer","value":01}"#, 45),
+    (r#"{"tag":"BatchCount","type":"Integer","value":1"#, 46),
+    (r#"{"tag":"BatchCount";"type":"Integer","value":1}"#, 19),
+];
 
-fn stop_of(error: &EncodingError) -> Stop {
-    match error {
-        EncodingError::NotJson(place) => Stop::Json(*place),
-        EncodingError::TooDeep(place) => Stop::Depth(*place),
-        EncodingError::RepeatedName => Stop::Twice,
-        _ => Stop::Other,
+/// Where a text stops being JSON.
+fn place_in(alloc: Global, text: &str) -> Option<usize> {
+    match from_json(alloc, text) {
+        Err(EncodingError::NotJson(place)) => Some(place),
+        _ => None,
     }
 }
 
-/// The text is no JSON, and this is why.
-fn stops(rt: &impl Abort, alloc: Global, text: &str, stop: Stop) {
-    let error = refusal_of(rt, alloc, text);
-    assert!(rt; stop_of(&error) == stop, "{text}");
-    drop(error);
+/// Where a text nests too deep.
+fn depth_in(alloc: Global, text: &str) -> Option<usize> {
+    match from_json(alloc, text) {
+        Err(EncodingError::TooDeep(place)) => Some(place),
+        _ => None,
+    }
 }
 
-/// Texts that are no JSON, and why.
-const NO_JSON: &[(&str, Stop)] = &[
-    ("", Stop::Json(0)),
-    (
-        r#"{"tag":"BatchCount","type":"Integer","value":01}"#,
-        Stop::Json(45),
-    ),
-    (
-        r#"{"tag":"BatchCount","type":"Integer","value":1"#,
-        Stop::Json(46),
-    ),
-    (
-        r#"{"tag":"BatchCount";"type":"Integer","value":1}"#,
-        Stop::Json(19),
-    ),
-    (
-        r#"{"tag":"BatchCount","type":"Integer","value":1,"value":2}"#,
-        Stop::Twice,
-    ),
-];
+/// Whether a text has a name twice in one object.
+fn has_a_name_twice(alloc: Global, text: &str) -> bool {
+    matches!(from_json(alloc, text), Err(EncodingError::RepeatedName))
+}
 
 #[test]
 fn what_is_no_json_is_refused_with_its_place(rt: HostRuntime) {
-    for (text, stop) in NO_JSON {
-        stops(&rt, rt.alloc(), text, *stop);
+    for (text, place) in NO_JSON {
+        assert_eq!(rt; place_in(rt.alloc(), text), Some(*place), "{text}");
     }
+    let twice = r#"{"tag":"BatchCount","type":"Integer","value":1,"value":2}"#;
+    assert!(rt; has_a_name_twice(rt.alloc(), twice));
 }
 
 /// Other forms of JSON, and the items' bytes in hex.
@@ -376,18 +354,21 @@ fn other_forms_are_read(rt: HostRuntime) {
 
 /// A structure in JSON of so many levels.
 fn nested(rt: &impl Abort, alloc: Global, levels: usize) -> String {
-    let open = r#"{"tag":"Attribute","value":["#;
-    let mut text = open.repeat(alloc, levels).expect(rt, "memory");
-    let close = "]}".repeat(alloc, levels).expect(rt, "memory");
-    text.push_str(close.as_str()).expect(rt, "memory");
+    let mut text = String::new(alloc);
+    for _ in 0..levels {
+        text.push_str(r#"{"tag":"Attribute","value":["#)
+            .expect(rt, "memory");
+    }
+    for _ in 0..levels {
+        text.push_str("]}").expect(rt, "memory");
+    }
     text
 }
 
 #[test]
 fn levels_are_bounded(rt: HostRuntime) {
     let alloc = rt.alloc();
-    let most = nested(&rt, alloc, 64);
-    assert!(rt; from_json(alloc, most.as_str()).err().is_none());
-    let more = nested(&rt, alloc, 65);
-    stops(&rt, alloc, more.as_str(), Stop::Depth(64 * 28 + 1));
+    let (most, more) = (nested(&rt, alloc, 64), nested(&rt, alloc, 65));
+    assert!(rt; from_json(alloc, most.as_str()).is_ok());
+    assert_eq!(rt; depth_in(alloc, more.as_str()), Some(64 * 28 + 1));
 }

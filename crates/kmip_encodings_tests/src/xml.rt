@@ -1,5 +1,4 @@
 //! Items as bytes in hex and as XML, both written by hand.
-use crate::json::is_text;
 use kmip_encodings::to_xml;
 use kmip_wire::read_tree;
 use std::alloc::Global;
@@ -76,7 +75,7 @@ fn is_written(rt: &impl Abort, alloc: Global, digits: &str, xml: &str) {
     let (tree, _) = read_tree(alloc, &bytes).expect(rt, "an item");
     let text = to_xml(alloc, &tree).expect(rt, "memory");
     drop(tree);
-    is_text(rt, text.as_str(), xml);
+    assert_eq!(rt; text.as_str(), xml);
 }
 
 #[test]
