@@ -1,10 +1,11 @@
-//! What the tests of many types share. No function here has a clause, so that a test's proof has none to meet; and each
-//! ends the run where something is amiss, so that no test has a way out at which it lets go of the values that it holds.
+//! What the tests of many types share. No function here has a clause, so that a test's proof has
+//! none to meet; and each ends the run where something is amiss, so that no test has a way out at
+//! which it lets go of the values that it holds.
 use kmip_client::{Client, ClientBuilder, Result};
-use kmip_link::MemoryLink;
+use kmip_link::{Link, MemoryLink};
 use kmip_shape::{Outer, ReadItem, ShowItem, WriteItem, to_blob};
 use kmip_test_messages::message;
-use kmip_wire::{ItemRef, Text, Tree, TryClone, read_tree};
+use kmip_wire::{Config, ItemRef, Text, Tree, TryClone, read_tree};
 use std::alloc::Global;
 use std::process::Abort;
 
@@ -18,11 +19,6 @@ pub fn bytes_of(rt: &impl Abort, alloc: Global, notation: &str) -> Vec<u8> {
     message(alloc, notation).expect(rt, "the notation of messages")
 }
 
-/// The two are equal.
-pub fn are_equal<T: PartialEq>(rt: &impl Abort, value: &T, expected: &T) {
-    assert!(rt; value == expected);
-}
-
 /// The value has a copy that equals it.
 pub fn is_copied<T: TryClone + PartialEq + Drop>(rt: &impl Abort, alloc: Global, value: &T) {
     let copy = value.try_clone(alloc).expect(rt, "memory");
@@ -33,7 +29,7 @@ pub fn is_copied<T: TryClone + PartialEq + Drop>(rt: &impl Abort, alloc: Global,
 pub fn is_shown<T: ShowItem>(rt: &impl Abort, alloc: Global, value: &T, expected: &str) {
     let mut shown = Text::new(alloc);
     value.show(alloc, &mut shown).expect(rt, "memory");
-    assert_eq!(rt; shown.as_str(), expected);
+    assert!(rt; shown.as_str() == expected, "{expected}");
 }
 
 /// The value is written as this item.
@@ -45,15 +41,15 @@ fn is_item<T: WriteItem>(rt: &impl Abort, alloc: Global, value: &T, notation: &s
 }
 
 /// The value of one item, whose shape is chosen by a number or not.
-fn value_of<T: ReadItem>(rt: &impl Abort, alloc: Global, number: Option<u32>, notation: &str) -> T {
+pub fn value_of<T: ReadItem>(
+    rt: &impl Abort,
+    alloc: Global,
+    number: Option<u32>,
+    notation: &str,
+) -> T {
     let bytes = bytes_of(rt, alloc, notation);
     let item = ItemRef::root(&bytes).expect(rt, "an item");
     T::read(alloc, Outer { number, name: None }, item).expect(rt, "a value")
-}
-
-/// The value of one item.
-pub fn is_read_alone<T: ReadItem>(rt: &impl Abort, alloc: Global, notation: &str) -> T {
-    value_of::<T>(rt, alloc, None, notation)
 }
 
 /// The value of one item, which has a copy that equals it.
@@ -91,7 +87,8 @@ pub fn is_written<T: ReadItem + WriteItem + TryClone + PartialEq>(
     is_item::<T>(rt, alloc, &value, notation);
 }
 
-/// The item is read as a value that is shown as this text, is written as the same bytes and has a copy that equals it.
+/// The item is read as a value that is shown as this text, is written as the same bytes and has a
+/// copy that equals it.
 pub fn shows_what_is_written<T: ReadItem + ShowItem + WriteItem + TryClone + PartialEq>(
     rt: &impl Abort,
     alloc: Global,
@@ -121,12 +118,25 @@ pub fn is_plain<T: ReadItem + WriteItem + ShowItem>(
     is_shown::<T>(rt, alloc, &value, expected);
 }
 
-/// A client over a link that holds these bytes.
-pub fn client_fed(rt: &impl Abort, alloc: Global, notation: &str) -> Client<MemoryLink> {
+/// A link that holds these bytes.
+pub fn link_fed(rt: &impl Abort, alloc: Global, notation: &str) -> MemoryLink {
     let mut link = MemoryLink::new(alloc);
     link.feed(&bytes_of(rt, alloc, notation))
         .expect(rt, "memory");
-    ClientBuilder::new(link).build()
+    link
+}
+
+/// A client over a link, with these settings.
+pub fn client_over<L: Link>(link: L, config: Config) -> Client<L> {
+    ClientBuilder::new(link).with_reader_config(config).build()
+}
+
+/// A client over a link, with a name and a password.
+pub fn client_of_alice<L: Link>(rt: &impl Abort, alloc: Global, link: L) -> Client<L> {
+    let (username, password) = (text(rt, alloc, "alice"), text(rt, alloc, "secret"));
+    ClientBuilder::new(link)
+        .with_credentials(username, Some(password))
+        .build()
 }
 
 /// Appends an answer as it is shown: the payload, or the printed error.
@@ -148,39 +158,10 @@ pub fn told<P: ShowItem + Drop>(rt: &impl Abort, alloc: Global, answer: Result<P
     told
 }
 
-/// The client told this text, and took the whole response.
-pub fn is_answered(rt: &impl Abort, mut client: Client<MemoryLink>, told: &Text, expected: &str) {
-    assert_eq!(rt; told.as_str(), expected);
-    assert!(rt; client.inner().rest().is_empty());
-    drop(client);
-}
-
 /// The tree of an item.
 pub fn tree_of(rt: &impl Abort, alloc: Global, notation: &str) -> Tree {
     let bytes = bytes_of(rt, alloc, notation);
     let (tree, len) = read_tree(alloc, &bytes).expect(rt, "an item");
-    assert_eq!(rt; len, bytes.len(), "{notation}");
+    assert!(rt; len == bytes.len(), "{notation}");
     tree
-}
-
-/// The request was sent so, and the response was taken whole.
-pub fn is_sent(rt: &impl Abort, alloc: Global, mut client: Client<MemoryLink>, request: &str) {
-    let request = bytes_of(rt, alloc, request);
-    assert!(rt; client.inner().sent() == request.as_slice());
-    assert!(rt; client.inner().rest().is_empty());
-    drop(client);
-}
-
-/// What a call failed with is printed so.
-pub fn fails_with(rt: &impl Abort, alloc: Global, answer: Result<Tree>, expected: &str) {
-    match answer {
-        Ok(tree) => {
-            drop(tree);
-            assert_eq!(rt; "a tree", expected);
-        }
-        Err(error) => {
-            let printed = error.to_string(alloc).expect(rt, "memory");
-            assert_eq!(rt; printed.as_str(), expected);
-        }
-    }
 }

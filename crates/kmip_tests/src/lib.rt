@@ -1,8 +1,9 @@
 //! Tests that stand on several crates, and nothing else.
 //!
-//! Each public call that takes memory is made once with ample memory: that it comes to its end is no clause's matter,
-//! since running out of memory is always allowed. They stand here and not in the crates that have the calls, since a crate with tests
-//! is proved twice. So do the tests of kmip_audit.
+//! Each public call that takes memory is made once with ample memory: that it comes to its end is
+//! no clause's matter, since running out of memory is always allowed. They stand here and not in the
+//! crates that have the calls, since a crate with tests is proved twice. So do the tests of
+//! kmip_audit.
 #![tactic(auto)]
 
 #[cfg(test)]
@@ -10,9 +11,9 @@ mod audit;
 #[cfg(test)]
 mod client;
 #[cfg(test)]
-mod helpers;
+mod exchanges;
 #[cfg(test)]
-mod item_ids;
+mod helpers;
 #[cfg(test)]
 mod keys;
 #[cfg(test)]
@@ -25,7 +26,5 @@ mod plain;
 mod requests;
 #[cfg(test)]
 mod responses;
-#[cfg(test)]
-mod sent;
 #[cfg(test)]
 mod sessions;

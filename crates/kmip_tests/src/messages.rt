@@ -1,49 +1,22 @@
 //! Whole messages of the caller's, over links that hold their answers.
-use crate::helpers::{bytes_of, client_fed, fails_with, is_sent, text, tree_of};
-use kmip_client::{Client, ClientBuilder};
-use kmip_link::MemoryLink;
+use crate::exchanges::Answer::{Fails, Gives};
+use crate::exchanges::{
+    Ask, Call, Row, are_answered, are_refused, is_answered, is_diagnosed, is_refused,
+};
+use crate::helpers::{client_of_alice, client_over, link_fed, tree_of};
 use kmip_tags::tags::REQUEST_MESSAGE;
-use kmip_wire::{Blob, Config, Node, Tag, Tree, Trees, write_tree};
+use kmip_wire::{Blob, Config, Node, Tag, Tree, Trees};
 use std::alloc::Global;
 use std::process::Abort;
 
 /// A Query for the operations, objects and the vendor's text.
 const QUERY: &str = "REQ2(18, 74 e1,74 e2,74 e3)";
 
-/// This response answers the tree that it is.
-fn answers(rt: &impl Abort, alloc: Global, message: &str, response: &str) {
-    let mut client = client_fed(rt, alloc, response);
-    let tree = tree_of(rt, alloc, message);
-    let answer = client.do_message(alloc, &tree).expect(rt, "a tree");
-    let written = write_tree(alloc, &answer).expect(rt, "bytes");
-    let expected = bytes_of(rt, alloc, response);
-    assert!(rt; written.as_slice() == expected.as_slice(), "{response}");
-    is_sent(rt, alloc, client, message);
-}
-
-/// This response fails the call with an error that is printed so.
-fn fails(rt: &impl Abort, alloc: Global, response: &str, expected: &str) {
-    let mut client = client_fed(rt, alloc, response);
-    let tree = tree_of(rt, alloc, QUERY);
-    let answer = client.do_message(alloc, &tree);
-    fails_with(rt, alloc, answer, expected);
-    is_sent(rt, alloc, client, QUERY);
-}
-
-/// This message is not sent, and nothing is taken.
-fn is_refused(rt: &impl Abort, alloc: Global, message: &Tree) {
-    let mut client = client_fed(rt, alloc, "RES2(7F e0)");
-    let rest = bytes_of(rt, alloc, "RES2(7F e0)");
-    let answer = client.do_message(alloc, message);
-    let expected = "Serialize error: request has no wire form";
-    fails_with(rt, alloc, answer, expected);
-    assert!(rt; client.inner().sent().is_empty());
-    assert!(rt; client.inner().rest() == rest.as_slice());
-    drop(client);
-}
+/// A message, and the response that answers it as it stands.
+type Pair = (&'static str, &'static str);
 
 /// Messages, and responses that answer them.
-const ANSWERS: &[(&str, &str)] = &[
+const ANSWERS: &[Pair] = &[
     // a Query, whose response has an operation, a tag and a message extension of a vendor
     (
         QUERY,
@@ -65,82 +38,67 @@ const ANSWERS: &[(&str, &str)] = &[
     ("78^64{}", "7B^64{}"),
 ];
 
+/// The message is sent as it stands.
+fn sends(message: &str) -> Ask<'_> {
+    Ask {
+        call: Call::Message,
+        tree: message,
+        sent: message,
+    }
+}
+
+/// The message is answered by this response as it stands.
+fn is_exchanged(rt: &impl Abort, alloc: Global, message: &str, response: &str) {
+    let client = client_over(link_fed(rt, alloc, response), Config::new());
+    let ask = sends(message);
+    is_answered(rt, alloc, client, &ask, response, &Gives(response));
+}
+
 #[test]
 fn a_response_is_answered_as_it_stands(rt: HostRuntime) {
     for (message, response) in ANSWERS {
-        answers(&rt, rt.alloc(), message, response);
+        is_exchanged(&rt, rt.alloc(), message, response);
     }
 }
 
 /// Bytes that are no message, and what is printed of them.
-const NO_MESSAGES: &[(&str, &str)] = &[
+const NO_MESSAGES: &[Row] = &[
     // no bytes, cut within the head, and within the contents
-    ("!", "Response read error: end of input"),
-    ("!42007B0100", "Response read error: end of input"),
+    ("!", Fails("Response read error: end of input")),
+    ("!42007B0100", Fails("Response read error: end of input")),
     (
         "!42007B010000001042007A01",
-        "Response read error: end of input",
+        Fails("Response read error: end of input"),
     ),
     // contents that are no item, and too many levels
     (
         "!42007B0100000008FFFFFFFFFFFFFFFF",
-        "Deserialize error: malformed TTLV",
+        Fails("Deserialize error: malformed TTLV"),
     ),
-    ("7B^65{}", "Deserialize error: malformed TTLV"),
+    ("7B^65{}", Fails("Deserialize error: malformed TTLV")),
     // the head of an integer
-    ("!42007B0200000004", "Deserialize error: not a structure"),
+    (
+        "!42007B0200000004",
+        Fails("Deserialize error: not a structure"),
+    ),
 ];
+
+/// The head of a response of 136 bytes, alone.
+const LONG: &[Row] = &[(
+    "!42007B0100000080",
+    Fails("Deserialize error: response size 136 exceeds limit 135"),
+)];
 
 #[test]
 fn bytes_that_are_no_message_are_no_answer(rt: HostRuntime) {
-    for (response, expected) in NO_MESSAGES {
-        fails(&rt, rt.alloc(), response, expected);
-    }
-}
-
-#[test]
-fn a_response_past_the_limit_is_not_taken(rt: HostRuntime) {
-    let alloc = rt.alloc();
-    let mut link = MemoryLink::new(alloc);
-    // the head alone
-    link.feed(b"\x42\x00\x7B\x01\x00\x00\x00\x80")
-        .expect(&rt, "memory");
+    let (alloc, ask) = (rt.alloc(), sends(QUERY));
+    are_answered(&rt, alloc, Config::new(), &ask, NO_MESSAGES);
     let config = Config::new().with_max_bytes(135);
-    let mut client = ClientBuilder::new(link).with_reader_config(config).build();
-    let message = tree_of(&rt, alloc, QUERY);
-    let answer = client.do_message(alloc, &message);
-    let expected = "Deserialize error: response size 136 exceeds limit 135";
-    fails_with(&rt, alloc, answer, expected);
-    is_sent(&rt, alloc, client, QUERY);
+    are_answered(&rt, alloc, config, &ask, LONG);
 }
 
 /// Items that are no structures.
 const NO_STRUCTURES: &[&str] = &["78 i1", "78 \"message\"", "78 x42007801", "78 o1"];
-
-#[test]
-fn what_is_no_structure_is_not_sent(rt: HostRuntime) {
-    for message in NO_STRUCTURES {
-        let message = tree_of(&rt, rt.alloc(), message);
-        is_refused(&rt, rt.alloc(), &message);
-        drop(message);
-    }
-}
-
-#[test]
-fn what_has_no_form_is_not_sent(rt: HostRuntime) {
-    let alloc = rt.alloc();
-    let three = Blob::of(alloc, b"\x01\x02\x03").expect(&rt, "memory");
-    let number = Tree {
-        tag: Tag::of(0x540001),
-        node: Node::BigInteger(three),
-    };
-    let message = around(&rt, alloc, number);
-    is_refused(&rt, alloc, &message);
-    // a level more than there may be
-    let deepest = tree_of(&rt, alloc, "78^64{}");
-    let message = around(&rt, alloc, deepest);
-    is_refused(&rt, alloc, &message);
-}
 
 /// The message of one item.
 fn around(rt: &impl Abort, alloc: Global, item: Tree) -> Tree {
@@ -152,35 +110,39 @@ fn around(rt: &impl Abort, alloc: Global, item: Tree) -> Tree {
     }
 }
 
+/// The message of this item has no form.
+fn has_no_form(rt: &impl Abort, alloc: Global, item: Tree) {
+    let message = around(rt, alloc, item);
+    is_refused(rt, alloc, &Call::Message, &message);
+    drop(message);
+}
+
+#[test]
+fn what_has_no_form_is_not_sent(rt: HostRuntime) {
+    let alloc = rt.alloc();
+    are_refused(&rt, alloc, &Call::Message, NO_STRUCTURES);
+    let number = Tree {
+        tag: Tag::of(0x540001),
+        node: Node::BigInteger(Blob::of(alloc, b"\x01\x02\x03").expect(&rt, "memory")),
+    };
+    has_no_form(&rt, alloc, number);
+    // a level more than there may be
+    has_no_form(&rt, alloc, tree_of(&rt, alloc, "78^64{}"));
+}
+
 #[test]
 fn the_credential_is_not_added(rt: HostRuntime) {
     let alloc = rt.alloc();
-    let mut link = MemoryLink::new(alloc);
-    link.feed(&bytes_of(&rt, alloc, "RES2(5C e18,7F e0)"))
-        .expect(&rt, "memory");
-    let (username, password) = (text(&rt, alloc, "alice"), text(&rt, alloc, "secret"));
-    let mut client = ClientBuilder::new(link)
-        .with_credentials(username, Some(password))
-        .build();
-    let message = tree_of(&rt, alloc, QUERY);
-    let answer = client.do_message(alloc, &message);
-    drop(answer.expect(&rt, "a tree"));
-    is_sent(&rt, alloc, client, QUERY);
+    let response = "RES2(5C e18,7F e0)";
+    let client = client_of_alice(&rt, alloc, link_fed(&rt, alloc, response));
+    let ask = sends(QUERY);
+    is_answered(&rt, alloc, client, &ask, response, &Gives(response));
 }
 
 #[test]
 fn diagnostics_are_of_the_messages(rt: HostRuntime) {
-    let alloc = rt.alloc();
-    let mut link = MemoryLink::new(alloc);
-    link.feed(&bytes_of(&rt, alloc, "7B{0F{7F e0}}"))
-        .expect(&rt, "memory");
-    let config = Config::new().with_read_buf();
-    let mut client = ClientBuilder::new(link).with_reader_config(config).build();
-    let message = tree_of(&rt, alloc, "78{0F{5C e18,79{}}}");
-    let answer = client.do_message(alloc, &message);
-    drop(answer.expect(&rt, "a tree"));
-    assert_eq!(&rt; client.last_req_diag_str(), Some("78[0F[5Ce18:79[]]]"));
-    assert_eq!(&rt; client.last_res_diag_str(), Some("7B[0F[7Fe0:]]"));
-    assert_eq!(&rt; client.connection_error_count(), 0);
-    is_sent(&rt, alloc, client, "78{0F{5C e18,79{}}}");
+    let row = ("7B{0F{7F e0}}", Gives("7B{0F{7F e0}}"));
+    let ask = sends("78{0F{5C e18,79{}}}");
+    let (request, response) = ("78[0F[5Ce18:79[]]]", "7B[0F[7Fe0:]]");
+    is_diagnosed(&rt, rt.alloc(), &ask, &row, request, response);
 }

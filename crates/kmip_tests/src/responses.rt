@@ -1,11 +1,15 @@
 //! Responses, each type read, shown and copied once.
-use crate::helpers::{are_equal, is_read, is_read_alone, is_shown, shows, text};
+use crate::helpers::{bytes_of, is_copied, is_read, is_shown, shows, value_of};
+use kmip_enums::{Operation, ResultStatus};
 use kmip_response::{
-    Attribute, BatchItem, Certificate, EncryptionKeyInformation, KeyBlock, KeyValue,
-    KeyWrappingData, MACOrSignatureKeyInformation, MessageExtension, Name, PrivateKey,
+    Attribute, BatchItem, Certificate, EncryptionKeyInformation, GetResponsePayload, KeyBlock,
+    KeyValue, KeyWrappingData, MACOrSignatureKeyInformation, MessageExtension, Name, PrivateKey,
     ProtocolVersion, PublicKey, ResponseHeader, ResponseMessage, ResponsePayload, SymmetricKey,
-    TemplateAttribute, VendorExtension,
+    TemplateAttribute,
 };
+use kmip_response_objects::ManagedObject;
+use kmip_shape::read_root;
+use kmip_wire::ItemRef;
 use std::alloc::Global;
 use std::process::Abort;
 
@@ -67,37 +71,47 @@ fn objects_and_payloads(rt: HostRuntime) {
     shows::<ResponsePayload>(&rt, alloc, Some(37), notation, shown);
 }
 
-/// The extension of the messages below.
-fn extension(rt: &impl Abort, alloc: Global) -> MessageExtension {
-    MessageExtension {
-        vendor_identification: text(rt, alloc, "v"),
-        criticality_indicator: true,
-        vendor_extension: VendorExtension,
-    }
+/// The extension is that of the items below.
+fn is_extension(rt: &impl Abort, extension: &MessageExtension) {
+    assert!(rt; extension.vendor_identification.as_str() == "v");
+    assert!(rt; extension.criticality_indicator);
 }
 
-#[test]
-fn extensions(rt: HostRuntime) {
-    let alloc = rt.alloc();
-    let notation = "51{9D \"v\",26 o1,7D{}}";
-    let read = is_read::<MessageExtension>(&rt, alloc, None, notation);
-    are_equal(&rt, &read, &extension(&rt, alloc));
-}
-
+/// A batch item with an extension, alone and as that of a message.
 const ITEM: &str = "0F{5C e25,7F e0,7C{C2 xAA},51{9D \"v\",26 o1,7D{}}}";
 
-#[test]
-fn items(rt: HostRuntime) {
-    let expected = Some(extension(&rt, rt.alloc()));
-    let item = is_read::<BatchItem>(&rt, rt.alloc(), None, ITEM);
-    are_equal(&rt, &item.message_extension, &expected);
-    drop(item);
+const MESSAGE: &str = "RES2(5C e25,7F e0,7C{C2 xAA},51{9D \"v\",26 o1,7D{}})";
+
+/// The item is that of the text.
+fn is_item(rt: &impl Abort, alloc: Global, item: &BatchItem) {
+    assert!(rt; item.operation == Some(Operation::RNGRetrieve));
+    assert!(rt; item.unique_batch_item_id.is_none());
+    assert!(rt; item.result_status == ResultStatus::Success);
+    assert!(rt; item.result_reason.is_none() && item.result_message.is_none());
+    let payload = item.payload.as_ref().expect(rt, "a payload");
+    is_shown::<ResponsePayload>(rt, alloc, payload, "RNGRetrieve{random_bytes=x\"AA\"}");
+    is_extension(
+        rt,
+        item.message_extension.as_ref().expect(rt, "an extension"),
+    );
 }
 
-/// The first item of a message is that above.
-fn begins_with_item(rt: &impl Abort, alloc: Global, message: &ResponseMessage) {
-    let item = is_read_alone::<BatchItem>(rt, alloc, ITEM);
-    are_equal(rt, &message.batch_items.get(0), &Some(&item));
+/// The header is that of the text.
+fn is_header(rt: &impl Abort, header: &ResponseHeader) {
+    let version = &header.protocol_version;
+    assert!(rt; version.major == 1 && version.minor == 2);
+    assert!(rt; header.timestamp == 1 && header.batch_count == 1);
+}
+
+#[test]
+fn extensions_and_items(rt: HostRuntime) {
+    let alloc = rt.alloc();
+    let notation = "51{9D \"v\",26 o1,7D{}}";
+    let extension = is_read::<MessageExtension>(&rt, alloc, None, notation);
+    is_extension(&rt, &extension);
+    drop(extension);
+    let item = is_read::<BatchItem>(&rt, alloc, None, ITEM);
+    is_item(&rt, alloc, &item);
     drop(item);
 }
 
@@ -105,18 +119,41 @@ fn begins_with_item(rt: &impl Abort, alloc: Global, message: &ResponseMessage) {
 fn messages(rt: HostRuntime) {
     let alloc = rt.alloc();
     let notation = "7A{69{6A i1,6B i2},92 d1,0D i1}";
-    let header = is_read_alone::<ResponseHeader>(&rt, alloc, notation);
-    assert_eq!(&rt; header.timestamp, 1);
-    let notation = "RES2(5C e25,7F e0,7C{C2 xAA},51{9D \"v\",26 o1,7D{}})";
-    let message = is_read::<ResponseMessage>(&rt, alloc, None, notation);
-    are_equal(&rt, &message.header, &header);
-    begins_with_item(&rt, alloc, &message);
+    is_header(&rt, &value_of::<ResponseHeader>(&rt, alloc, None, notation));
+    let message = is_read::<ResponseMessage>(&rt, alloc, None, MESSAGE);
+    is_header(&rt, &message.header);
+    assert!(&rt; message.batch_items.len() == 1);
+    is_item(
+        &rt,
+        alloc,
+        message.batch_items.get(0).expect(&rt, "an item"),
+    );
     drop(message);
+}
+
+/// A response payload of Get, read as the root of its bytes.
+fn payload_of(rt: &impl Abort, alloc: Global, notation: &str) -> GetResponsePayload {
+    let bytes = bytes_of(rt, alloc, notation);
+    let item = ItemRef::root(&bytes).expect(rt, "an item");
+    read_root::<GetResponsePayload>(alloc, item).expect(rt, "a payload")
+}
+
+#[test]
+fn an_object(rt: HostRuntime) {
+    let alloc = rt.alloc();
+    let payload = payload_of(&rt, alloc, "7C{57 e4,94 \"k\",64{40{42 e1,45{43 xAA}}}}");
+    assert!(&rt; payload.unique_identifier.0.as_str() == "k");
+    let object = &payload.cryptographic_object;
+    let shown =
+        "PrivateKey{key_block={key_format_type=Raw,key_value={key_material=Bytes(x\"AA\")}}}";
+    is_shown::<ManagedObject>(&rt, alloc, object, shown);
+    is_copied::<ManagedObject>(&rt, alloc, object);
+    drop(payload);
 }
 
 #[test]
 fn versions(rt: HostRuntime) {
     let notation = "69{6A i1,6B i2}";
-    let version = is_read_alone::<ProtocolVersion>(&rt, rt.alloc(), notation);
+    let version = value_of::<ProtocolVersion>(&rt, rt.alloc(), None, notation);
     is_shown::<ProtocolVersion>(&rt, rt.alloc(), &version, "{major=1,minor=2}");
 }
