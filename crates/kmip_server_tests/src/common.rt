@@ -72,6 +72,15 @@ fn made_of(rt: &impl Abort, alloc: Global, answer: Answer) -> Made {
     }
 }
 
+/// These answers.
+pub fn answers_of(rt: &impl Abort, alloc: Global, answers: &[Answer]) -> List<Made> {
+    let mut made = List::new(alloc);
+    for answer in answers {
+        made.push(made_of(rt, alloc, *answer)).expect(rt, "memory");
+    }
+    made
+}
+
 /// A maker with these answers, which refuses the calls with these numbers.
 pub fn maker_of(
     rt: &impl Abort,
@@ -79,9 +88,6 @@ pub fn maker_of(
     answers: &[Answer],
     refused: &[u64],
 ) -> MemoryMaker {
-    let mut made = List::new(alloc);
-    for answer in answers {
-        made.push(made_of(rt, alloc, *answer)).expect(rt, "memory");
-    }
-    MemoryMaker::new(alloc, made, refused).expect(rt, "memory")
+    let answers = answers_of(rt, alloc, answers);
+    MemoryMaker::new(alloc, answers, refused).expect(rt, "memory")
 }

@@ -3,7 +3,7 @@
 //! The life of a key over the plain maker stands among the tests of kmip_run, where `joined` makes
 //! the same calls.
 use crate::common::TestCall::{Activate, CreatePair, Random, Rename, Sign};
-use crate::common::{Answer, maker_of};
+use crate::common::{Answer, answers_of};
 use crate::reports::Returned::{Failure, Value};
 use crate::reports::{
     Row, check_calls, check_link, client_over, client_with_diagnostics, plain_link,
@@ -19,7 +19,9 @@ const ANSWERS: &[Answer] = &[Answer::Pair(b"\x01", b"\x02"), Answer::Bytes(b"\x0
 
 /// A link over a server with this maker.
 fn refusing_link(rt: &impl Abort, alloc: Global) -> ServerLink<MemoryMaker> {
-    ServerLink::new(alloc, maker_of(rt, alloc, ANSWERS, &[1]), 0)
+    let answers = answers_of(rt, alloc, ANSWERS);
+    let maker = MemoryMaker::new(alloc, answers, &[1]).expect(rt, "memory");
+    ServerLink::new(alloc, maker, 0)
 }
 
 /// A name, and a signature that the maker refuses once.
