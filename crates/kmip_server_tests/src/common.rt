@@ -3,6 +3,7 @@
 //! values that it holds.
 use kmip_server::Call;
 use kmip_store::{Made, MemoryMaker};
+use kmip_test_messages::message;
 use kmip_wire::{Blob, List, Text};
 use std::alloc::Global;
 use std::process::Abort;
@@ -22,6 +23,11 @@ pub enum TestCall<'a> {
     Destroy(&'a str),
     Rename(&'a str, &'a str),
     Get(&'a str),
+}
+
+/// The bytes of items in the notation of kmip_test_messages.
+pub fn bytes_of(rt: &impl Abort, alloc: Global, notation: &str) -> Vec<u8> {
+    message(alloc, notation).expect(rt, "the notation of messages")
 }
 
 pub fn text(rt: &impl Abort, alloc: Global, text: &str) -> Text {
@@ -48,12 +54,40 @@ pub fn call_of(rt: &impl Abort, alloc: Global, call: TestCall<'_>) -> Call {
     }
 }
 
-/// One more answer of a maker.
-pub fn add_answer(rt: &impl Abort, answers: &mut List<Made>, answer: Made) {
-    answers.push(answer).expect(rt, "memory");
+/// An answer of a maker.
+#[derive(Clone, Copy)]
+pub enum Answer {
+    /// A private key and its public key.
+    Pair(&'static [u8], &'static [u8]),
+    /// Random bytes, or a signature.
+    Bytes(&'static [u8]),
 }
 
-/// A maker with these answers, which refuses its second call.
-pub fn maker_of(rt: &impl Abort, alloc: Global, answers: List<Made>) -> MemoryMaker {
-    MemoryMaker::new(alloc, answers, &[1]).expect(rt, "memory")
+fn made_of(rt: &impl Abort, alloc: Global, answer: Answer) -> Made {
+    match answer {
+        Answer::Pair(private, public) => {
+            Made::Pair(blob(rt, alloc, private), blob(rt, alloc, public))
+        }
+        Answer::Bytes(bytes) => Made::Bytes(blob(rt, alloc, bytes)),
+    }
+}
+
+/// These answers.
+pub fn answers_of(rt: &impl Abort, alloc: Global, answers: &[Answer]) -> List<Made> {
+    let mut made = List::new(alloc);
+    for answer in answers {
+        made.push(made_of(rt, alloc, *answer)).expect(rt, "memory");
+    }
+    made
+}
+
+/// A maker with these answers, which refuses the calls with these numbers.
+pub fn maker_of(
+    rt: &impl Abort,
+    alloc: Global,
+    answers: &[Answer],
+    refused: &[u64],
+) -> MemoryMaker {
+    let answers = answers_of(rt, alloc, answers);
+    MemoryMaker::new(alloc, answers, refused).expect(rt, "memory")
 }

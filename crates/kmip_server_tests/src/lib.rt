@@ -11,11 +11,9 @@ mod links;
 #[cfg(test)]
 mod many;
 #[cfg(test)]
-mod refusals;
-#[cfg(test)]
 mod reports;
 #[cfg(test)]
-mod responses;
+mod requests;
 #[cfg(test)]
 mod served;
 #[cfg(test)]
