@@ -13,6 +13,7 @@ Both are optimized. Ours is built by tools/build.py: with --proved as users run 
 (it proves what is lacking), else without proof and with the inline hints of a proved build. The plain one is made from
 bench/client/plain.rs. Wants `rt`, `rustc` and some 600 MB of memory; writes nothing into the repository.
 """
+import argparse
 import os
 import resource
 import shutil
@@ -90,8 +91,10 @@ def build(work, how):
             if row.startswith('kmip_client:'):
                 out.write('client_bench: kmip_client' + row.partition(':')[2])
     for crate in ('kmip_run', 'client_bench'):
-        subprocess.run([sys.executable, f'{TOP}/tools/build.py', how, 'program', crate, f'{work}/{crate}', f'{work}/top'],
-                       check=True, stdout=subprocess.DEVNULL, stderr=subprocess.DEVNULL)
+        made = subprocess.run([sys.executable, f'{TOP}/tools/build.py', how, 'program', crate, f'{work}/{crate}', f'{work}/top'],
+                              stdin=subprocess.DEVNULL, stdout=subprocess.PIPE, stderr=subprocess.STDOUT, text=True, errors='replace', check=False)
+        if made.returncode:
+            sys.exit(f'client.py: {crate} is not built:\n{made.stdout}')
     subprocess.run(['rustc', '--edition', '2021', '-O', '-o', f'{work}/plain', f'{HERE}/client/plain.rs'], check=True)
 
 
@@ -118,20 +121,21 @@ def compare(name, ours, plain, feed, rounds):
 
 
 def main():
-    how = '--proved' if '--proved' in sys.argv[1:] else '--unproved'
-    rounds = [int(word) for word in sys.argv[1:] if word != '--proved']
-    rounds = rounds[0] if rounds else 11
+    words = argparse.ArgumentParser(description='Times the client beside one by hand in Rust without proofs.')
+    words.add_argument('--proved', action='store_true', help='time the proved programs')
+    words.add_argument('rounds', nargs='?', type=int, default=11)
+    given = words.parse_args()
     work = tempfile.mkdtemp(prefix='client-bench-')
     try:
-        build(work, how)
+        build(work, '--proved' if given.proved else '--unproved')
         feeds = {'none': b'', 'small': response_to(bytes.fromhex('deadbeef')), 'large': response_to(bytes(LARGE))}
         for name, value in feeds.items():
             with open(f'{work}/{name}.bin', 'wb') as out:
                 out.write(value)
         plain = f'{work}/plain'
-        compare('make', [f'{work}/kmip_run', 'make', '100000'], [plain, 'make', '100000'], f'{work}/none.bin', rounds)
-        compare('small', [f'{work}/client_bench', '400000'], [plain, 'answer', '400000'], f'{work}/small.bin', rounds)
-        compare('large', [f'{work}/client_bench', '9'], [plain, 'answer', '9'], f'{work}/large.bin', rounds)
+        compare('make', [f'{work}/kmip_run', 'make', '100000'], [plain, 'make', '100000'], f'{work}/none.bin', given.rounds)
+        compare('small', [f'{work}/client_bench', '400000'], [plain, 'answer', '400000'], f'{work}/small.bin', given.rounds)
+        compare('large', [f'{work}/client_bench', '9'], [plain, 'answer', '9'], f'{work}/large.bin', given.rounds)
     finally:
         shutil.rmtree(work)
 

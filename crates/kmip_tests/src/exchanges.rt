@@ -8,8 +8,7 @@ use std::alloc::Global;
 use std::process::Abort;
 
 /// What is called: an Encrypt, which KMIP's tables have no payload for, in a version and perhaps
-/// with a
-/// Unique Batch Item ID, or a whole message of the caller's.
+/// with a Unique Batch Item ID, or a whole message of the caller's.
 #[derive(Clone, Copy)]
 pub enum Call<'a> {
     Encrypt(Version, Option<&'a [u8]>),

@@ -1,8 +1,8 @@
 //! Tests that stand on several crates, and nothing else.
 //!
 //! Each public call that takes memory is made once with ample memory: that it comes to its end is
-//! no clause's matter, since running out of memory is always allowed. They stand here and not in the
-//! crates that have the calls, since a crate with tests is proved twice. So do the tests of
+//! no clause's matter, since running out of memory is always allowed. They stand here and not in
+//! the crates that have the calls, since a crate with tests is proved twice. So do the tests of
 //! kmip_audit.
 #![tactic(auto)]
 

@@ -152,7 +152,8 @@ const ROWS: &[(&str, &str)] = &[
 ];
 
 /// The item has these bytes in hex, as a text of it says. Here and below each function ends the run
-/// where something is wrong, so that no test has a way out at which it drops the values that it holds.
+/// where something is wrong, so that no test has a way out at which it drops the values that it
+/// holds.
 pub(crate) fn is_item(rt: &impl Abort, alloc: Global, tree: &Tree, digits: &str, text: &str) {
     let bytes = write_tree(alloc, tree).expect(rt, text);
     let found = hex::encode_upper(alloc, bytes.as_slice()).expect(rt, "memory");
