@@ -1,10 +1,10 @@
 #!/usr/bin/env python3
-"""Times the client beside one by hand in Rust without proofs, in turn, by processor time.
+"""Times the client beside one by hand in Rust without proofs, in turn, by user time.
 
 usage: bench/client.py [--proved] [ROUNDS]      each program is run so many times, 11 if it is left out
 
-It prints a line for each of three things that both do, with the least and the median of the rounds and their ratios, of
-which a smaller one is faster here:
+It prints a line for each of three things that both do, with the least and the median of the rounds in user time and their
+ratios, of which a smaller one is faster here, and the ratios where the time of the system counts too:
   make       `make 100000`: each response is made, fed to a link in memory, and read by a call; the bytes of both are compared
   small      400,000 calls over a link that was fed before: the client alone
   large      9 responses of 16 MiB: read into their place, checked, and copied to the payload
@@ -91,33 +91,46 @@ def build(work, how):
             if row.startswith('kmip_client:'):
                 out.write('client_bench: kmip_client' + row.partition(':')[2])
     for crate in ('kmip_run', 'client_bench'):
-        made = subprocess.run([sys.executable, f'{TOP}/tools/build.py', how, 'program', crate, f'{work}/{crate}', f'{work}/top'],
-                              stdin=subprocess.DEVNULL, stdout=subprocess.PIPE, stderr=subprocess.STDOUT, text=True, errors='replace', check=False)
+        words = [sys.executable, f'{TOP}/tools/build.py', how, 'program', crate, f'{work}/{crate}', f'{work}/top']
+        made = subprocess.run(words, stdin=subprocess.DEVNULL, stdout=subprocess.PIPE, stderr=subprocess.STDOUT,
+                              text=True, errors='replace', check=False)
         if made.returncode:
             sys.exit(f'client.py: {crate} is not built:\n{made.stdout}')
     subprocess.run(['rustc', '--edition', '2021', '-O', '-o', f'{work}/plain', f'{HERE}/client/plain.rs'], check=True)
 
 
 def run(words, feed):
-    """The processor seconds of a program, and what it wrote."""
+    """The user seconds of a program, those with the system's, and what it wrote."""
     before = resource.getrusage(resource.RUSAGE_CHILDREN)
     with open(feed, 'rb') as given:
         written = subprocess.run(words, stdin=given, stdout=subprocess.PIPE, check=True).stdout
     after = resource.getrusage(resource.RUSAGE_CHILDREN)
-    return after.ru_utime - before.ru_utime + after.ru_stime - before.ru_stime, written
+    user = after.ru_utime - before.ru_utime
+    return user, user + after.ru_stime - before.ru_stime, written
+
+
+def ratios(ours, plain):
+    """The least and the median of both, and the two ratios."""
+    ours, plain = sorted(ours), sorted(plain)
+    half = len(ours) // 2
+    return ours[0], ours[half], plain[0], plain[half], ours[0] / plain[0], ours[half] / plain[half]
 
 
 def compare(name, ours, plain, feed, rounds):
-    times = ([], [])
+    user, whole = ([], []), ([], [])
     for _ in range(rounds):
-        (our_time, our_text), (plain_time, plain_text) = run(ours, feed), run(plain, feed)
-        if our_text.split() != plain_text.split():
-            sys.exit(f'{name}: the programs wrote {our_text[:80]} and {plain_text[:80]}')
-        times[0].append(our_time)
-        times[1].append(plain_time)
-    least, median = ([sorted(seconds)[at] for seconds in times] for at in (0, rounds // 2))
-    print(f'{name}: ours {least[0]:.3f} s (median {median[0]:.3f}), plain {least[1]:.3f} s (median {median[1]:.3f}), '
-          f'ratio {least[0] / least[1]:.2f} (median {median[0] / median[1]:.2f}), aim {AIMS[name]:.2f}')
+        texts = []
+        for at, words in enumerate((ours, plain)):
+            seconds, with_system, written = run(words, feed)
+            user[at].append(seconds)
+            whole[at].append(with_system)
+            texts.append(written.split())
+        if texts[0] != texts[1]:
+            sys.exit(f'{name}: the programs wrote {texts[0][:8]} and {texts[1][:8]}')
+    of_user, of_whole = ratios(*user), ratios(*whole)
+    print(f'{name}: ours {of_user[0]:.3f} s (median {of_user[1]:.3f}), plain {of_user[2]:.3f} s (median {of_user[3]:.3f}), '
+          f'ratio {of_user[4]:.2f} (median {of_user[5]:.2f}), aim {AIMS[name]:.2f}; '
+          f'with the system\'s time {of_whole[4]:.2f} (median {of_whole[5]:.2f})', flush=True)
 
 
 def main():
