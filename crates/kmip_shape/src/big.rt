@@ -14,7 +14,7 @@ ghost use Rattle.std.specs.Prelude.{refl};
 use crate::item::{Item, WriteItem};
 use crate::item_lists::fits_bytes;
 use crate::read::{Outer, ReadError, ReadItem};
-use crate::row_readers::{ReadRow, takes};
+use crate::row_readers::ReadRow;
 use crate::row_writers::{FieldRow, ShowRow, WriteRow};
 use crate::scalars::{big_integer_len, put_big_integer};
 use crate::show::ShowItem;
@@ -54,7 +54,10 @@ impl<'a, const TAG: u32> ReadRow<'a> for BigOne<TAG> {
         outer: Outer<'_>,
         child: ItemRef<'a>,
     ) -> Result<(), ReadError> {
-        if takes(child.tag().number() == TAG, self.slot.is_some())? {
+        if child.tag().number() == TAG {
+            if self.slot.is_some() {
+                return Err(ReadError::Unread);
+            }
             self.slot = Some(BigInteger::read(alloc, outer, child)?.0);
         }
         Ok(())
@@ -137,7 +140,10 @@ impl<'a, const TAG: u32> ReadRow<'a> for BigOpt<TAG> {
         outer: Outer<'_>,
         child: ItemRef<'a>,
     ) -> Result<(), ReadError> {
-        if takes(child.tag().number() == TAG, self.slot.is_some())? {
+        if child.tag().number() == TAG {
+            if self.slot.is_some() {
+                return Err(ReadError::Unread);
+            }
             self.slot = Some(BigInteger::read(alloc, outer, child)?.0);
         }
         Ok(())

@@ -16,7 +16,7 @@ ghost use Rattle.kmip_shape.specs.Resume.{resume_single};
 use crate::item::{Item, WriteItem};
 use crate::item_lists::{fits_optional, optional_len, write_optional};
 use crate::read::{Outer, ReadError, ReadItem};
-use crate::row_readers::{ReadRow, takes};
+use crate::row_readers::ReadRow;
 use crate::row_writers::{FieldRow, ShowRow, WriteRow};
 use crate::show::{ShowItem, show_optional};
 use crate::text_writer::TextWriter;
@@ -71,7 +71,10 @@ impl<'a, T: OfTag> ReadRow<'a> for TagOpt<T> {
         outer: Outer<'_>,
         child: ItemRef<'a>,
     ) -> Result<(), ReadError> {
-        if takes(T::has_case(child.tag()), self.slot.is_some())? {
+        if T::has_case(child.tag()) {
+            if self.slot.is_some() {
+                return Err(ReadError::Unread);
+            }
             self.slot = Some(T::read(alloc, outer, child)?);
         }
         Ok(())

@@ -1,7 +1,7 @@
 //! The rows of a record as they are read, in one walk over the record's children.
 
 ghost use Rattle.std.specs.Prelude.{◌≡◌, ℕ, IfOk, Some, None, Err, Option, [], ◌∷◌, filter, map};
-ghost use Rattle.std.specs.Prelude.{refl, Ok, ◌&&◌, if◌then◌else◌};
+ghost use Rattle.std.specs.Prelude.{refl};
 ghost use Rattle.std.specs.Prelude as p;
 ghost use Rattle.std.specs.Option.{option_map, option_and_then};
 ghost use Rattle.kmip_wire.specs.Tree.{Tree};
@@ -77,18 +77,6 @@ pub trait ReadRow<'a>: Drop {
         ≡ with_field (reads o c xs) (λ f. read_rows rest o c xs) };
 }
 
-/// Whether a child is the item of a row that holds at most one. `Unread` comes where the row has an
-/// item already.
-#[inline(always)]
-pub(crate) fn takes(of_row: bool, full: bool) -> Result<bool, ReadError>
-    ensures { result ≡ (if of_row && full then Err ReadError.Unread else Ok of_row) }
-{
-    if of_row && full {
-        return Err(ReadError::Unread);
-    }
-    Ok(of_row)
-}
-
 /// A required item.
 #[derive(Drop)]
 pub struct One<T, const TAG: u32> {
@@ -119,7 +107,10 @@ impl<'a, T: ReadItem, const TAG: u32> ReadRow<'a> for One<T, TAG> {
         outer: Outer<'_>,
         child: ItemRef<'a>,
     ) -> Result<(), ReadError> {
-        if takes(child.tag().number() == TAG, self.slot.is_some())? {
+        if child.tag().number() == TAG {
+            if self.slot.is_some() {
+                return Err(ReadError::Unread);
+            }
             self.slot = Some(T::read(alloc, outer, child)?);
         }
         Ok(())
@@ -160,7 +151,10 @@ impl<'a, T: ReadItem, const TAG: u32> ReadRow<'a> for Opt<T, TAG> {
         outer: Outer<'_>,
         child: ItemRef<'a>,
     ) -> Result<(), ReadError> {
-        if takes(child.tag().number() == TAG, self.slot.is_some())? {
+        if child.tag().number() == TAG {
+            if self.slot.is_some() {
+                return Err(ReadError::Unread);
+            }
             self.slot = Some(T::read(alloc, outer, child)?);
         }
         Ok(())
@@ -210,7 +204,10 @@ impl<'a, T: ReadItem, const TAG: u32> ReadRow<'a> for ChosenOpt<'a, T, TAG> {
         _outer: Outer<'_>,
         child: ItemRef<'a>,
     ) -> Result<(), ReadError> {
-        if takes(child.tag().number() == TAG, self.kept.is_some())? {
+        if child.tag().number() == TAG {
+            if self.kept.is_some() {
+                return Err(ReadError::Unread);
+            }
             self.kept = Some(child);
         }
         Ok(())
@@ -263,7 +260,10 @@ impl<'a, T: ReadItem, const TAG: u32> ReadRow<'a> for ChosenOne<'a, T, TAG> {
         _outer: Outer<'_>,
         child: ItemRef<'a>,
     ) -> Result<(), ReadError> {
-        if takes(child.tag().number() == TAG, self.kept.is_some())? {
+        if child.tag().number() == TAG {
+            if self.kept.is_some() {
+                return Err(ReadError::Unread);
+            }
             self.kept = Some(child);
         }
         Ok(())
