@@ -155,10 +155,7 @@ pub fn call<L: Link, R: CallRequest>(
         room.request.as_slice(),
         &mut room.taken,
     );
-    if !settings.config.has_buf() {
-        return answer;
-    }
-    if !has_response(&answer) {
+    if !settings.config.has_buf() || !has_response(&answer) {
         return answer;
     }
     let made = diagnostic_for(alloc, &settings.config, &room.taken);

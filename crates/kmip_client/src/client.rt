@@ -16,7 +16,7 @@ use crate::call::{Diagnostics, Settings, call};
 use crate::call_request::{CallRequest, TypedRequest};
 use crate::error::Error;
 use crate::operation::OperationRequest;
-use crate::room::{Room, keep, open};
+use crate::room::{Room, close, open};
 use crate::whole_message::MessageRequest;
 use kmip_link::Link;
 use kmip_request::{Authentication, RequestPayload};
@@ -304,16 +304,19 @@ impl<T: Link> Client<T> {
             request: None,
             response: None,
         };
-        let mut room = open(alloc, self.room.take());
+        open(alloc, &mut self.room);
+        let Some(room) = &mut self.room else {
+            unreachable!()
+        };
         let answer = call(
             alloc,
             &mut self.link,
             &self.settings,
             request,
             &mut self.diagnostics,
-            &mut room,
+            room,
         );
-        self.room = keep(room);
+        close(&mut self.room);
         self.errors = count_after(self.errors, loses_connection(&answer));
         answer
     }

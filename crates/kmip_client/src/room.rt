@@ -1,5 +1,5 @@
 //! The room of a client's messages, which it keeps from call to call.
-ghost use Rattle.std.specs.Prelude.{◌≡◌, [], IfSome, vec_capacity};
+ghost use Rattle.std.specs.Prelude.{IfSome, IsSomeAnd, IsTrue};
 ghost use Rattle.kmip_client.specs.Kept.{IsKept};
 
 use kmip_wire::{Buffer, wipe};
@@ -20,39 +20,39 @@ pub struct Room {
     pub taken: Vec<u8>,
 }
 
-/// The room of a call: what was kept, or none yet. It takes no memory.
-pub fn open(alloc: Global, kept: Option<Room>) -> Room
-    requires { IfSome kept IsKept }
-    ensures { IsKept result }
+/// Makes the room of a call where none was kept. It takes no memory.
+pub fn open(alloc: Global, kept: &mut Option<Room>)
+    requires { IfSome kept.old IsKept }
+    ensures { IsSomeAnd kept.new IsKept }
 {
-    match kept {
-        Some(room) => room,
-        None => Room {
+    if kept.is_none() {
+        *kept = Some(Room {
             request: Buffer::new(alloc),
             taken: Vec::new(alloc),
-        },
+        });
     }
 }
 
-/// Leaves no bytes, after zeros were written over the messages. The memory stays.
-fn wipe_both(room: &mut Room)
-    ensures request { room.new.request.bytes ≡ [] }
-    ensures taken { room.new.taken.items ≡ [] }
-    ensures capacity { vec_capacity room.new.taken ≡ vec_capacity room.old.taken }
+/// Writes zeros over the messages and removes them. Their memory stays; whether it is little enough
+/// to be kept is returned.
+fn wipe_both(room: &mut Room) -> bool
+    ensures { IsTrue result → IsKept room.new }
 {
     room.request.wipe();
     wipe(&mut room.taken);
+    // a buffer has at most twice the memory of its room, since its vector doubles when it grows
+    room.request.spare() <= MOST_KEPT / 2 && room.taken.capacity() <= MOST_KEPT
 }
 
-/// What is kept after a call: zeros are written over its messages, and very much room is let go.
-pub fn keep(mut room: Room) -> Option<Room>
-    ensures { IfSome result IsKept }
+/// Writes zeros over the messages of a call, and keeps their room, unless it is very much.
+pub fn close(kept: &mut Option<Room>)
+    ensures { IfSome kept.new IsKept }
 {
-    wipe_both(&mut room);
-    // a buffer has at most twice the memory of its room, since its vector doubles when it grows
-    if room.request.spare() <= MOST_KEPT / 2 && room.taken.capacity() <= MOST_KEPT {
-        Some(room)
-    } else {
-        None
+    let stays = match kept {
+        Some(room) => wipe_both(room),
+        None => true,
+    };
+    if !stays {
+        *kept = None;
     }
 }

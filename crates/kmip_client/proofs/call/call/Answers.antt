@@ -40,24 +40,6 @@ returns-then-not-has_buf-clause-caused g c =
     c.serialize.new.out.bytes c.as_slice-2.result.now c.args.settings.now.config.max_bytes
     c.in-Ok.ensures.ok c.as_slice-2.ensures c.exchange-answer.ensures.caused
 
-pub returns-then-not-has_response-clause-exchange : goal.returns-then-not-has_response-clause-exchange
-returns-then-not-has_response-clause-exchange g c = λ tells.
-    of_request (g.R.CallRequest.kind.reads (g.R.CallRequest.request c.args.request.now))
-    (seen_by (g.R.CallRequest.seen c.args.request.now) c.exchange-answer.result)
-    (g.R.CallRequest.kind.bytes_of (g.R.CallRequest.request c.args.request.now)
-    (option_map credential_of c.args.settings.now.authentication))
-    c.serialize.new.out.bytes c.as_slice-2.result.now c.args.settings.now.config.max_bytes _
-    c.in-Ok.ensures.ok c.as_slice-2.ensures (c.exchange-answer.ensures.exchange tells)
-
-pub returns-then-not-has_response-clause-caused : goal.returns-then-not-has_response-clause-caused
-returns-then-not-has_response-clause-caused g c =
-    caused_by (g.R.CallRequest.kind.reads (g.R.CallRequest.request c.args.request.now))
-    (seen_by (g.R.CallRequest.seen c.args.request.now) c.exchange-answer.result)
-    (g.R.CallRequest.kind.bytes_of (g.R.CallRequest.request c.args.request.now)
-    (option_map credential_of c.args.settings.now.authentication))
-    c.serialize.new.out.bytes c.as_slice-2.result.now c.args.settings.now.config.max_bytes
-    c.in-Ok.ensures.ok c.as_slice-2.ensures c.exchange-answer.ensures.caused
-
 pub returns-clause-exchange : goal.returns-clause-exchange
 returns-clause-exchange g c = λ tells.
     kept_exchanged (seen_by (g.R.CallRequest.seen c.args.request.now) c.exchange-answer.result)
@@ -85,16 +67,6 @@ returns-clause-caused g c =
 pub returns-in-Err-clause-reading : goal.returns-in-Err-clause-reading
 returns-in-Err-clause-reading g c = λ tells is. absurd (serialize_not_reading c.in-Err.error c.in-Err.ensures.err is)
 
-pub returns-then-not-has_response-clause-reading : goal.returns-then-not-has_response-clause-reading
-returns-then-not-has_response-clause-reading g c = λ tells.
-    reading_of g.L.Link.state c.args.link.now c.exchange-answer.new.link
-    (g.R.CallRequest.kind.reads (g.R.CallRequest.request c.args.request.now))
-    (seen_by (g.R.CallRequest.seen c.args.request.now) c.exchange-answer.result)
-    (g.R.CallRequest.kind.bytes_of (g.R.CallRequest.request c.args.request.now)
-    (option_map credential_of c.args.settings.now.authentication))
-    c.serialize.new.out.bytes c.as_slice-2.result.now c.args.settings.now.config.max_bytes _
-    c.in-Ok.ensures.ok c.as_slice-2.ensures (c.exchange-answer.ensures.reading tells)
-
 pub returns-clause-reading : goal.returns-clause-reading
 returns-clause-reading g c = λ tells.
     kept_reading (seen_by (g.R.CallRequest.seen c.args.request.now) c.exchange-answer.result)
@@ -110,15 +82,6 @@ returns-clause-reading g c = λ tells.
 
 pub returns-in-Err-clause-writing : goal.returns-in-Err-clause-writing
 returns-in-Err-clause-writing g c = λ tells is. absurd (serialize_not_writing c.in-Err.error c.in-Err.ensures.err is)
-
-pub returns-then-not-has_response-clause-writing : goal.returns-then-not-has_response-clause-writing
-returns-then-not-has_response-clause-writing g c = λ tells.
-    writing_of g.L.Link.state c.args.link.now c.exchange-answer.new.link
-    (seen_by (g.R.CallRequest.seen c.args.request.now) c.exchange-answer.result)
-    (g.R.CallRequest.kind.bytes_of (g.R.CallRequest.request c.args.request.now)
-    (option_map credential_of c.args.settings.now.authentication))
-    c.serialize.new.out.bytes c.as_slice-2.result.now
-    c.in-Ok.ensures.ok c.as_slice-2.ensures (c.exchange-answer.ensures.writing tells)
 
 pub returns-clause-writing : goal.returns-clause-writing
 returns-clause-writing g c = λ tells.
