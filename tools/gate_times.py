@@ -11,12 +11,14 @@ written to gate_times.log beside what `rt ci` says.
 
 The longest chain is the largest sum of own proofs of crates of which each stands on the one before: no number of
 processors makes a run shorter than that. The most memory at once is the sum over all processes of the run, and what some
-of them share is counted for each. What an earlier run kept takes no time, so give --anew for a run from nothing. To see
-what fewer processors make of it, run `taskset -c 0,1 python3 tools/gate_times.py`. A run that is ended by a signal prints
-what it took up to there.
+of them share is counted for each. The last line has the processor time of all processes, those that compile, link and run
+programs and tests among them. What an earlier run kept takes no time, so give --anew for a run from nothing. To see what
+fewer processors make of it, run `taskset -c 0,1 python3 tools/gate_times.py`. A run that is ended by a signal prints what
+it took up to there.
 """
 import os
 import re
+import resource
 import signal
 import subprocess
 import sys
@@ -108,7 +110,7 @@ def watch(root, seen):
     seen.at_once = max(at_once, seen.at_once)
 
 
-def table(crates, spent, memory, at_once, wall):
+def table(crates, spent, memory, at_once, wall, whole):
     minutes = lambda name, phase: spent.get((name, phase), 0) / 60
     chains = {}
 
@@ -128,10 +130,12 @@ def table(crates, spent, memory, at_once, wall):
     print(f'\nlongest chain: {length:.1f} processor minutes: {", ".join(names)}')
     print(f'most memory at once: {at_once / 1e9:.1f} GB')
     print(f'from first to last: {wall / 60:.1f} minutes')
+    if whole:  # a log of an earlier version has none
+        print(f'all processes: {whole / 60:.1f} processor minutes')
 
 
 def read(logs):
-    spent, memory, whole = {}, {}, {'wall': 0, 'at_once': 0}
+    spent, memory, whole = {}, {}, {'wall': 0, 'whole': 0, 'at_once': 0}
     lines = []
     for log in logs:
         with open(log, encoding='utf-8', errors='replace') as file:
@@ -142,19 +146,19 @@ def read(logs):
             memory[row[1]] = max(float(row[3]), memory.get(row[1], 0))
         elif row:
             spent[row[1], row[2]] = max(float(row[3]), spent.get((row[1], row[2]), 0))
-        if row := re.fullmatch(r'gate_times: wall ([\d.]+)', line):
-            whole['wall'] += float(row[1])
+        if row := re.fullmatch(r'gate_times: (wall|whole) ([\d.]+)', line):
+            whole[row[1]] += float(row[2])
         if row := re.fullmatch(r'gate_times: at_once ([\d.]+)', line):
             whole['at_once'] = max(float(row[1]), whole['at_once'])
-    return spent, memory, whole['at_once'], whole['wall']
+    return spent, memory, whole['at_once'], whole['wall'], whole['whole']
 
 
-def write(log, seen, wall):
+def write(log, seen, wall, whole):
     for (name, phase), seconds in sorted(seen.spent().items()):
         log.write(f'gate_times: {name} {phase} {seconds:.1f}\n')
     for name, most in sorted(seen.memory.items()):
         log.write(f'gate_times: {name} memory {most}\n')
-    log.write(f'gate_times: at_once {seen.at_once}\ngate_times: wall {wall:.1f}\n')
+    log.write(f'gate_times: at_once {seen.at_once}\ngate_times: wall {wall:.1f}\ngate_times: whole {whole:.1f}\n')
 
 
 def ended(*_):
@@ -176,11 +180,13 @@ def main():
             run.terminate()
             run.wait()
         wall = time.time() - begin
+        taken = resource.getrusage(resource.RUSAGE_CHILDREN)
+        whole = taken.ru_utime + taken.ru_stime
         log.seek(0, os.SEEK_END)
-        write(log, seen, wall)
+        write(log, seen, wall, whole)
     with open('gate_times.log', encoding='utf-8', errors='replace') as file:
         print(file.read().split('gate_times: ')[0].rstrip('\n').rpartition('\n')[2])
-    table(crates_of('.'), seen.spent(), seen.memory, seen.at_once, wall)
+    table(crates_of('.'), seen.spent(), seen.memory, seen.at_once, wall, whole)
     return run.returncode
 
 
