@@ -11,3 +11,4 @@ pub mod Whole
 pub mod SentBytes
 pub mod SkeletonsShown
 pub mod Captured
+pub mod Responses
