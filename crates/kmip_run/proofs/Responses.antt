@@ -2,7 +2,7 @@
 use Rattle.std.proofs.Common.{◌≡◌, ℕ, ◌+◌, ◌<◌, ◌^◌, List, [], ◌∷◌, ◌++◌, length, Some, refl, sym, ap, ◌∙◌, arith, length-append, append_assoc, append-nil}
 use Rattle.std.specs.Prelude.{ℤ, pos, codes}
 use Rattle.kmip_tags.specs.Tags.{BATCH_COUNT, BATCH_ITEM, OPERATION, PROTOCOL_VERSION, PROTOCOL_VERSION_MAJOR, PROTOCOL_VERSION_MINOR, RESPONSE_HEADER, RESPONSE_MESSAGE, RESPONSE_PAYLOAD, RESULT_MESSAGE, RESULT_REASON, RESULT_STATUS, TIME_STAMP}
-use Rattle.kmip_wire.specs.Tree.{Tree, Scalar, scalar, structure, trees_of, integer, enumeration, text_string, date_time}
+use Rattle.kmip_wire.specs.Tree.{Tree, Scalar, scalar, structure, trees_of, integer, text_string, date_time}
 use Rattle.kmip_wire.specs.Bytes.{bytes, all_bytes}
 use Rattle.kmip_shape.specs.Writes.{structure_head, leaf_form, leaf_size, leaf_text}
 use Rattle.kmip_shape.proofs.Forms.{leaf_law}
