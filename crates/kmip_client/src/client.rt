@@ -201,7 +201,9 @@ impl<T: Link> Client<T> {
         ensures variant { IfOk result
             (λ answer. IsOfOperation (operation_of payload) (response_payload_val answer)) }
     {
-        self.request(alloc, &payload)
+        let answer = self.request(alloc, &payload);
+        drop(payload);
+        answer
     }
 
     /// Sends a request of any operation, whose payload is a tree, and returns the payload of its

@@ -61,7 +61,10 @@ impl<T: Link> Client<T> {
         ensures { IsCall T.state (requests.rng_request num_bytes) self.old self.new
             (seen_by (λ payload. response_payload_val (payloads.RNGRetrieve payload)) result) }
     {
-        self.request(alloc, &RequestPayload::RNGRetrieve(DataLength(num_bytes)))
+        let payload = RequestPayload::RNGRetrieve(DataLength(num_bytes));
+        let answer = self.request(alloc, &payload);
+        drop(payload);
+        answer
     }
 
     /// Asks for a signature of these bytes, by RSA with PKCS #1 v1.5 padding of their SHA-256

@@ -20,16 +20,23 @@ pub struct Room {
     pub taken: Vec<u8>,
 }
 
+/// Room for no bytes. It takes no memory.
+fn empty(alloc: Global) -> Room
+    ensures { IsKept result }
+{
+    Room {
+        request: Buffer::new(alloc),
+        taken: Vec::new(alloc),
+    }
+}
+
 /// Makes the room of a call where none was kept. It takes no memory.
 pub fn open(alloc: Global, kept: &mut Option<Room>)
     requires { IfSome kept.old IsKept }
     ensures { IsSomeAnd kept.new IsKept }
 {
     if kept.is_none() {
-        *kept = Some(Room {
-            request: Buffer::new(alloc),
-            taken: Vec::new(alloc),
-        });
+        *kept = Some(empty(alloc));
     }
 }
 
