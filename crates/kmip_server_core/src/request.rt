@@ -104,7 +104,10 @@ pub fn is_request_of(alloc: Global, call: &Call, bytes: &[u8]) -> Result<bool, O
         (request_read bytes.now ≡ Some (request_for (calls.request_of call.now)))) }
 {
     match from_slice(alloc, bytes) {
-        Ok((_, credential)) => is_made_by(alloc, call, credential, bytes),
+        Ok((payload, credential)) => {
+            drop(payload);
+            is_made_by(alloc, call, credential, bytes)
+        }
         Err(RequestReadError::OutOfMemory) => Err(OutOfMemory),
         Err(RequestReadError::Malformed | RequestReadError::NotCanonical) => Ok(false),
     }
