@@ -72,6 +72,8 @@ child=$! status=0
 wait "$child" || status=$?
 child=''
 sed "s|$room/||g" "$room/said"
-refused=$(grep 'must-fail .*: refused, as it must be' "$room/said" | grep -vc 'only because a proof file names' || true)
+# rt breaks a long line before 'has no field', and then does not say itself that only a name is missing
+only_a_name="only because a proof file names|: error: \`[^\`]*\`: record \`"
+refused=$(grep 'must-fail .*: refused, as it must be' "$room/said" | grep -Evc "$only_a_name" || true)
 printf '%d of %d wrong bodies refused by their contracts\n' "$refused" "${#edits[@]}"
 ((status == 0 && refused == ${#edits[@]}))
