@@ -4,14 +4,19 @@
 #   clients/install.sh [uninstall] [--prefix P] [--destdir D] [--libdir L] [--modulesdir M] [--built FOLDER]
 #
 #   P/bin/kmip_call, kmip_ttlv              the program, and the encoder of JSON and XML
+#   P/bin/kmip, kmip-test-server            the command, and a server to try it with (P/share/metsuwan/tools)
 #   P/bin/kmip.sh, kmip_keys.sh             the functions of bash: `. kmip.sh` finds them on the path
 #   L/libmetsuwan.*, libmetsuwan_tls.*      the libraries, static and shared, and L/pkgconfig for pkg-config
 #   P/include/metsuwan.h, metsuwan_tls.h    their headers
 #   M/metsuwan.so                           the provider for OpenSSL 3
-#   P/share/man/man1                        manual pages of the first three
+#   P/share/man                             manual pages
 #   P/share/bash-completion/completions     completion in bash
+#   P/bin/kmip_test_server                  a server to try things with, PyKMIP (tools/test_server.sh)
+#   P/bin/kmip_try_server                   what a server of yours does of the calls (tools/try_server.sh)
+#   P/share/zsh/site-functions/_kmip        completion of the command in zsh
 #   P/share/metsuwan/kmip.html              the page that shows captured messages
-#   P/share/doc/metsuwan/LICENSE
+#   P/share/metsuwan/tools                  what kmip_test_server starts
+#   P/share/doc/metsuwan                    LICENSE, the documents, and examples
 #
 #   uninstall          takes away all of this, and nothing else
 #   --prefix P         an absolute path; /usr/local where it is not given
@@ -70,7 +75,13 @@ fi
 share=$destdir$prefix/share
 pages=(kmip_call.1 kmip.sh.1 kmip_ttlv.1)
 # The completion is found by the name of the command that is completed.
-completed=(kmip_call kmip kmip_field kmip_open kmip_without)
+completed=(kmip_call kmip_field kmip_open kmip_without)
+
+tools=(test_server.sh live/certs.sh live/start_server.sh)
+# The documents, which keep their folders, since links lead from one to another.
+mapfile -t papers < <(cd "$top" && printf '%s\n' {README,CHANGELOG,SECURITY}.md docs/*.{md,png} clients/{,*/}README.md \
+    clients/{shell,c,python}/{call,life,rotate}.{sh,c,py} clients/python/output.py clients/rust/examples/*.rs |
+    while read -r paper; do if [[ -f $paper ]]; then echo "$paper"; fi; done)
 
 work=$(mktemp -d -t kmip-install-XXXXXX)
 trap 'rm -rf "$work"' EXIT
@@ -91,6 +102,31 @@ put() { # MODE FILE TARGET: the file, where it is there
     install -m "$1" "$2" "$3"
 }
 
+# Completion of the command, and of the functions of kmip.sh where these are sourced, which have its name.
+completion() {
+    # shellcheck disable=SC2016 # that of the shell which completes
+    printf '%s\n' '# shellcheck shell=bash disable=SC1091' 'if declare -F kmip >/dev/null; then' \
+        '    . "$(dirname "${BASH_SOURCE[0]}")/kmip_call"' '    return' 'fi'
+    cat "$top/clients/command/src/completion.bash"
+}
+
+# The command, where it was built.
+install_command() {
+    local file name=$share/bash-completion/completions/kmip
+    if [[ ! -f $built/kmip ]]; then
+        printf 'install.sh: kmip is left out: there is no %s\n' "$built/kmip" >&2
+        put 644 "$top/clients/shell/completion.bash" "$name"
+        return
+    fi
+    put 755 "$built/kmip" "$destdir$prefix/bin/kmip"
+    put 755 "$top/clients/command/kmip-test-server" "$destdir$prefix/bin/kmip-test-server"
+    for file in "$built"/man/kmip*.1; do put 644 "$file" "$share/man/man1/${file##*/}"; done
+    put 644 "$top/clients/man/kmip.conf.5" "$share/man/man5/kmip.conf.5"
+    completion >"$work/kmip"
+    put 644 "$work/kmip" "$name"
+    put 644 "$top/clients/command/src/completion.zsh" "$share/zsh/site-functions/_kmip"
+}
+
 install_all() {
     local part file page name
     built=${built:-$top/built}
@@ -106,20 +142,29 @@ install_all() {
     for name in "${completed[@]}"; do
         put 644 "$top/clients/shell/completion.bash" "$share/bash-completion/completions/$name"
     done
+    install_command
     put 644 "$built/kmip.html" "$share/metsuwan/kmip.html"
     if [[ -f $built/kmip32.html ]]; then put 644 "$built/kmip32.html" "$share/metsuwan/kmip32.html"; fi
+    put 755 "$top/tools/test_server.sh" "$destdir$prefix/bin/kmip_test_server"
+    put 755 "$top/tools/try_server.sh" "$destdir$prefix/bin/kmip_try_server"
+    for file in "${tools[@]}"; do put 755 "$top/tools/$file" "$share/metsuwan/tools/$file"; done
+    for file in "${papers[@]}"; do put 644 "$top/$file" "$share/doc/metsuwan/$file"; done
     put 644 "$top/LICENSE" "$share/doc/metsuwan/LICENSE"
     put 755 "$built/metsuwan.so" "$destdir$modules/metsuwan.so"
 }
 
 uninstall_all() {
     libraries uninstall
-    rm -f "$destdir$prefix/bin"/{kmip_call,kmip_ttlv,kmip.sh,kmip_keys.sh} "${pages[@]/#/$share/man/man1/}" \
+    rm -f "$destdir$prefix/bin"/{kmip_call,kmip_ttlv,kmip,kmip-test-server,kmip_test_server,kmip_try_server,kmip.sh,kmip_keys.sh} \
+        "${pages[@]/#/$share/man/man1/}" \
+        "$share/man/man1"/kmip{,-*}.1 "$share/man/man5/kmip.conf.5" "$share/bash-completion/completions/kmip" \
+        "$share/zsh/site-functions/_kmip" \
         "${completed[@]/#/$share/bash-completion/completions/}" "$share/metsuwan"/kmip{,32}.html \
+        "${tools[@]/#/$share/metsuwan/tools/}" "${papers[@]/#/$share/doc/metsuwan/}" \
         "$share/doc/metsuwan/LICENSE" "$destdir$modules/metsuwan.so"
     # Folders that nothing else is in.
     for folder in "$share/metsuwan" "$share/doc/metsuwan"; do
-        if [[ -d $folder ]]; then rmdir --ignore-fail-on-non-empty "$folder"; fi
+        if [[ -d $folder ]]; then find "$folder" -depth -type d -empty -delete; fi
     done
 }
 

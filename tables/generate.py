@@ -14,6 +14,7 @@ import tempfile
 import tomllib
 from pathlib import Path
 
+import curves
 import encodings_tables
 import enumerations
 import names_page
@@ -22,19 +23,20 @@ import tags
 from values import read_enumerations
 
 ROOT = Path(__file__).resolve().parent.parent
-WRITERS = [tags, enumerations, encodings_tables, plain_tables, names_page]
+WRITERS = [tags, enumerations, encodings_tables, plain_tables, names_page, curves]
 HEAD = "Written by tables/generate.py from tables/*.toml: change these instead."
 COMMENTS = {".rt": "// {}", ".antt": "-- {}", ".rs": "// {}", ".py": "# {}", ".bash": "# {}", ".md": "<!-- {} -->"}
 
 
 def read_tables():
-    """tags.toml as a list of numbers with names, and the enumerations, checked against it."""
+    """tags.toml as a list of numbers with names, the enumerations, checked against it, and the curves."""
     read = {
         name: tomllib.loads((ROOT / "tables" / f"{name}.toml").read_text(encoding="utf-8"))
-        for name in ("tags", "enumerations")
+        for name in ("tags", "enumerations", "curves")
     }
     all_tags = tags.read_tags(read["tags"])
-    return {"tags": all_tags, **read_enumerations(read["enumerations"], all_tags)}
+    found = read_enumerations(read["enumerations"], all_tags)
+    return {"tags": all_tags, **found, "curves": curves.read_curves(read["curves"], found["enumerations"])}
 
 
 def with_head(path, text):

@@ -17,7 +17,6 @@ class Enumeration:
     tag: int
     list: str
     doc: str
-    section: str
     crate: str = ""  # empty where it is no type in Rust
     chooses: bool = False
     mask: bool = False

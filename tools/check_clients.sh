@@ -141,12 +141,14 @@ cases() {
     rest_of_cases
 }
 
-# The client in Rust takes longest to build: that is done while the cases of the others run.
+# The client in Rust and the command take longest to build: that is done while the cases of the others run.
 rest_of_cases() {
-    local builder='' others=() who
-    for who in "${clients[@]}"; do [[ $who == rust ]] || others+=("$who"); done
-    if ((${#others[@]} < ${#clients[@]})); then
-        (clients=(rust) && build_clients && ((${#clients[@]} > 0)) && : >"$run/rust.is_built") &
+    local builder='' others=() late=() who
+    for who in "${clients[@]}"; do
+        if [[ $who == rust || $who == command ]]; then late+=("$who"); else others+=("$who"); fi
+    done
+    if ((${#late[@]})); then
+        (clients=("${late[@]}") && build_clients && printf '%s\n' ${clients[@]+"${clients[@]}"} >"$run/late") &
         builder=$!
         started+=("$builder")
     fi
@@ -155,7 +157,9 @@ rest_of_cases() {
     run_cases fakes 8 "${clients[@]}"
     # (its status is not asked: bash forgets it where a later process had the same number)
     if [[ -n $builder ]]; then wait "$builder" 2>"$run/waited"; fi
-    if [[ -e $run/rust.is_built ]]; then run_cases fakes 8 rust; fi
+    late=()
+    if [[ -s $run/late ]]; then mapfile -t late <"$run/late"; fi
+    run_cases fakes 8 ${late[@]+"${late[@]}"}
 }
 
 check() {

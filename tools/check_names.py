@@ -176,11 +176,36 @@ def check_clients():
     expect("completion.bash", dict(enumerate(found)), dict(enumerate(types["Operation"])))
 
 
+def check_curves():
+    """The rows of the curves, in code and in specs."""
+    wanted = {}
+    for line in lines_of("curves.txt"):
+        number, _, name, bits, octets = line.split()
+        wanted[int(number)] = (list(bytes.fromhex(name)), int(bits), int(octets))
+    rows = {
+        "curve_table.rt": re.findall(
+            r"name: &\[([^\]]*)\],\s+number: (\d+),\s+bits: (\d+),\s+octets: (\d+)",
+            read("kmip_der", "src", "curve_table.rt"),
+        ),
+        "CurveTable.antt": re.findall(
+            r"curve \((.*) ∷ \[\]\) (\d+) (\d+) (\d+) ∷", read("kmip_der", "specs", "CurveTable.antt")
+        ),
+    }
+    for file, found in rows.items():
+        by_number = {
+            int(number): ([int(byte) for byte in re.findall(r"\d+", name)], int(bits), int(octets))
+            for name, number, bits, octets in found
+        }
+        expect(f"kmip_der, {file}", by_number, wanted)
+        expect(f"kmip_der, {file}", {"rows": len(found)}, {"rows": len(wanted)})
+
+
 def main():
     check_tags()
     check_types()
     check_encodings()
     check_masks()
+    check_curves()
     check_clients()
     print(f"{COUNTS['passed']} passed, {COUNTS['failed']} failed")
     sys.exit(1 if COUNTS["failed"] else 0)

@@ -3,6 +3,8 @@
 
 usage: gate_times.py [--anew] [NAME..]      at the top of the repository; the words are those of `rt ci`
        gate_times.py --read LOG..           prints the table of earlier runs again: of each count the largest
+       gate_times.py --slow [SECONDS]       of the lines of `rattle check --progress`, as they come on standard input, the
+                                            functions that took longer than so many seconds of the clock: 8 if none are given
 
 It watches the prover's processes five times a second, and counts the processor time of each to its crate: its own
 proof, the proof of its tests, and its must-fail edits with the check that they begin with. What a process takes in its
@@ -165,7 +167,22 @@ def ended(*_):
     raise KeyboardInterrupt
 
 
+def slow(lines, least, clock=time.monotonic):
+    """Yields the functions whose lines came longer than this after the line before, and after how many seconds."""
+    before = clock()
+    for line in lines:
+        now = clock()
+        found = re.search(r'\bfn (\S+?):? (?:proved|not proved|no proof|could not tell)\b', line)
+        if found and now - before > least:
+            yield found[1], now - before
+        before = now
+
+
 def main():
+    if sys.argv[1:2] == ['--slow']:
+        for name, seconds in slow(sys.stdin, float((sys.argv[2:] or ['8'])[0])):
+            print(f'{seconds:6.0f}  {name}', flush=True)
+        return 0
     if sys.argv[1:2] == ['--read']:
         return table(crates_of('.'), *read(sys.argv[2:]))
     begin, seen = time.time(), Seen()

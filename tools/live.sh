@@ -9,7 +9,7 @@
 # client, of clients/CLIENT/tests/live for one. The last line is `N passed, M failed`, and the status is 0 where none failed.
 #
 #   --built DIR    takes what is in this folder, which clients/build.sh made before
-#   --client NAME  this client alone (shell, c, python, rust, or openssl, the provider), or these
+#   --client NAME  this client alone (shell, c, python, rust, command, or openssl, the provider), or these
 #   --topic NAME   this case file alone (as words for tools/live/each/words.sh), or these
 #   --measure N    each client also makes 10 N queries and N signatures over its one connection, beside PyKMIP's own client
 #   --slack N      seconds count N times, for a machine that is busy with other things: 10 where it is not given, with which
@@ -42,9 +42,14 @@ install() {
     type -P pykmip-server >/dev/null || missing+=(python3-pykmip)
     type -P jq >/dev/null || missing+=(jq)
     [[ -e /usr/include/openssl/ssl.h ]] || missing+=(libssl-dev)
-    if [[ " ${clients[*]} " == *' rust '* ]] && ! compgen -G '/usr/share/cargo/registry/openssl-0.10*' >/dev/null; then
-        missing+=(librust-openssl-dev)
+    local crate crates=()
+    if [[ " ${clients[*]} " == *' rust '* ]]; then crates=(openssl); fi
+    if [[ " ${clients[*]} " == *' command '* ]]; then
+        crates=(clap dirs indicatif libc openssl rpassword serde_json shlex signal-hook zeroize)
     fi
+    for crate in ${crates[@]+"${crates[@]}"}; do
+        compgen -G "/usr/share/cargo/registry/$crate-[0-9]*" >/dev/null || missing+=("librust-${crate/_/-}-dev")
+    done
     ((${#missing[@]})) || return 0
     ((EUID == 0)) || give_up "missing, and this is not root: apt-get install ${missing[*]}"
     echo "installing ${missing[*]}"
@@ -56,7 +61,7 @@ time_calls() {
     mkdir -p "$run/measured"
     host=localhost port=$server_port certificate=$certs/client.pem key=$certs/client.key authority=$certs/ca.pem patience=3600
     for client in "${clients[@]}"; do
-        if [[ $client == openssl ]]; then continue; fi # it has no such program
+        case $client in openssl | command) continue ;; esac # they have no such program
         . "$(folder_of "$client")/client.sh"
         client_run life "$run/measured" "$measure"
     done

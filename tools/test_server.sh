@@ -5,8 +5,9 @@
 #   tools/test_server.sh stop [--folder DIR]
 #
 # `start` prints what to enter next. The server listens on localhost, on port 5696 or, where that is taken, another one; it
-# begins with no objects each time. DIR, which is built/test_server if it is not given, has its certificates, its log and its
-# keys; `stop` ends the server and removes DIR. A folder that has other things in it is left alone, by both.
+# begins with no objects each time. DIR has its certificates, its log and its keys; `stop` ends the server and removes DIR. If
+# it is not given, it is built/test_server, of the checkout, or of a release, where this script is kmip_test_server, in the
+# folder where it is called. A folder that has other things in it is left alone, by both.
 #
 # It needs openssl and PyKMIP's pykmip-server on the path: on Debian 12 the package python3-pykmip; elsewhere
 # `pip install PyKMIP` under a Python of 3.11 or earlier, since PyKMIP uses ssl.wrap_socket.
@@ -23,7 +24,15 @@ usage() {
     exit 2
 }
 
-verb='' folder=$top/built/test_server port=''
+# Of a checkout, or of what clients/install.sh installs.
+if [[ -d $top/clients ]]; then
+    own=$top/tools/test_server.sh helpers=$top/tools/live released='' usual=$top/built/test_server
+else
+    own=kmip_test_server helpers=$top/share/metsuwan/tools/live released=1 usual=$PWD/built/test_server
+    # (the script itself, and not kmip_test_server, was called)
+    if [[ -d $top/tools/live ]]; then helpers=$top/tools/live; fi
+fi
+verb='' folder=$usual port=''
 while (($#)); do
     case $1 in
     start | stop) verb=$1 ;;
@@ -86,8 +95,8 @@ start() {
     [[ -n $port ]] || port=$(free_port)
     rm -rf "$folder"
     { mkdir -p "$folder" && : >"$mark"; } || give_up "$folder cannot be made"
-    "$top/tools/live/certs.sh" "$folder/certs" few || give_up 'no certificates'
-    "$top/tools/live/start_server.sh" "$folder" "$port" ||
+    "$helpers/certs.sh" "$folder/certs" few || give_up 'no certificates'
+    "$helpers/start_server.sh" "$folder" "$port" ||
         give_up "PyKMIP did not start; $folder/server.out has what it wrote"
     echo "PyKMIP listens on localhost:$port, as process $(<"$folder/server.pid")."
 }
@@ -98,15 +107,19 @@ say_next() {
     listens=$(sed -n 's/^port=//p' "$folder/server.conf")
     printf -v certs '%q %q %q' "$folder/certs/client.pem" "$folder/certs/client.key" "$folder/certs/ca.pem"
     printf '\nEnter:\n\n'
-    if [[ ! -x $program ]]; then
-        printf '    %q --unproved %q      # once: makes kmip_call, in some minutes\n' "$top/clients/build.sh" "$top/built"
+    if [[ -n $released ]]; then
+        printf '    . kmip.sh\n'
+    else
+        if [[ ! -x $program ]]; then
+            printf '    %q --unproved %q      # once: makes kmip_call, in some minutes\n' "$top/clients/build.sh" "$top/built"
+        fi
+        printf '    export KMIP_CALL=%q\n' "$program"
+        printf '    . %q\n' "$top/clients/shell/kmip.sh"
     fi
-    printf '    export KMIP_CALL=%q\n' "$program"
-    printf '    . %q\n' "$top/clients/shell/kmip.sh"
     printf '    kmip_open localhost:%s %s\n' "$listens" "$certs"
     printf "    kmip create-rsa 2048 issuing 'issuing, public'\n"
-    printf '\nAnd at last:\n\n    kmip_close\n    %q stop' "$top/tools/test_server.sh"
-    if [[ $folder != "$top/built/test_server" ]]; then printf ' --folder %q' "$folder"; fi
+    printf '\nAnd at last:\n\n    kmip_close\n    %q stop' "$own"
+    if [[ $folder != "$usual" || -n $released ]]; then printf ' --folder %q' "$folder"; fi
     printf '\n'
 }
 

@@ -67,13 +67,9 @@ for crate in "${names[@]}"; do cp -R "$top/wrong_bodies/$crate" "$room/crates/$c
 
 edits=("$room"/crates/*/must-fail/*.edit)
 printf 'trying %d wrong bodies of %d crates\n' "${#edits[@]}" "${#names[@]}"
-(cd "$room" && exec rt must-fail "${names[@]}") >"$room/said" 2>&1 </dev/null &
+(cd "$room" && exec "$top/tools/refusals.py" rt must-fail "${names[@]}") >"$room/said" 2>&1 </dev/null &
 child=$! status=0
 wait "$child" || status=$?
 child=''
 sed "s|$room/||g" "$room/said"
-# rt breaks a long line before 'has no field', and then does not say itself that only a name is missing
-only_a_name="only because a proof file names|: error: \`[^\`]*\`: record \`"
-refused=$(grep 'must-fail .*: refused, as it must be' "$room/said" | grep -Evc "$only_a_name" || true)
-printf '%d of %d wrong bodies refused by their contracts\n' "$refused" "${#edits[@]}"
-((status == 0 && refused == ${#edits[@]}))
+((status == 0))

@@ -154,7 +154,7 @@ int64_t kmip_request(const kmip_word *words, size_t count, const uint8_t *id, si
                      const uint8_t *password, size_t password_len, uint8_t *into, size_t room);
 
 /* Why words are no call, as a text: which word is wrong, and what may stand there, as
-   "sign: hash=sha384 is none of MD2, MD4, MD5, SHA1, ..". Returns its length in bytes.
+   "sign: hash= is none of MD2, MD4, MD5, SHA1, ..". Returns its length in bytes.
 
    words, count             the words
    into, room               where it is written, if it fits

@@ -3,6 +3,7 @@
 #define METSUWAN_INTERNAL_H
 #include "metsuwan_tls.h"
 
+#include <pthread.h>
 #include <stdarg.h>
 #include <sys/types.h>
 
@@ -59,18 +60,113 @@ static inline bool kmip_response_len(uint64_t more, size_t *length) {
     return true;
 }
 
+/* A process, which no other one is, also where its number comes again. */
+typedef struct {
+    pid_t number;
+    unsigned forks;
+} kmip_process;
+
+/* Says which one this is; false where memory runs out. */
+HIDDEN bool kmip_process_here(kmip_process *into);
+
+/* Whether this is that process, and not a child of it. */
+HIDDEN bool kmip_process_is(const kmip_process *process);
+
+/* Why something is not so. */
+typedef struct {
+    char text[256];
+} kmip_reason;
+
+/* Adds one to those that are there, unless it is among them. */
+HIDDEN void kmip_reason_add(kmip_reason *into, const char *text);
+
+/* What the system says of an error: in this room, or elsewhere. */
+HIDDEN const char *kmip_said_of(int error, char *text, size_t room);
+
+/* The time of a use: when it is over, by kmip_now, and how many seconds it was, for what is told; an
+   end of 0: it has none. */
+typedef struct {
+    double end, seconds;
+} kmip_time;
+
+HIDDEN bool kmip_time_is_over(const kmip_time *time);
+
+/* The first of so many parts of what is left, but at most so many seconds (0: no such bound). */
+HIDDEN kmip_time kmip_time_share(const kmip_time *whole, double parts, double most);
+
 /* A TLS connection, of which each use has to end by a deadline. */
 typedef struct kmip_wire kmip_wire;
 
+/* A server of a list, and how it does; times are those of kmip_now. */
+typedef struct {
+    char *host, *port, *text; /* as "a.example", "5696", "a.example:5696" */
+    double out_until;         /* until when others are asked before it */
+    double answered_at, failed_at;
+    unsigned failures; /* since it last answered */
+    bool refused;      /* the last was that it refused the certificate */
+    char why[256];     /* and why it failed */
+} kmip_server;
+
+/* The servers of a client, or of the clients of a pool. */
+#define KMIP_SERVERS_MOST 16
+typedef struct {
+    pthread_mutex_t lock;
+    size_t users;
+    kmip_server at[KMIP_SERVERS_MOST];
+    size_t count, turn;
+    bool by_turns;
+} kmip_servers;
+
+/* The servers of settings; a null pointer and what is wrong with them, as that memory ran out. */
+#define KMIP_SERVERS_MEMORY "out of memory"
+HIDDEN kmip_servers *kmip_servers_of(const kmip_settings *settings, const char **wrong);
+
+/* The same list for one user more; and for one less, the last of whom frees it. */
+HIDDEN kmip_servers *kmip_servers_take(kmip_servers *servers);
+HIDDEN void kmip_servers_leave(kmip_servers *servers);
+
+/* What is wrong with a host and a port, or a null pointer. */
+HIDDEN const char *kmip_wrong_server(const char *host, const char *port);
+
+/* The server to try next, but for those tried, a bit for each; -1: there is none. One that is left
+   out is still tried where there is no other, but not where it refused the certificate. */
+HIDDEN int kmip_servers_next(kmip_servers *servers, uint32_t tried);
+
+/* It has failed: for how long it is left out. It has answered: whether it had failed before. */
+HIDDEN double kmip_servers_failed(kmip_servers *servers, int which, bool refused, const char *why);
+HIDDEN bool kmip_servers_answered(kmip_servers *servers, int which);
+
+/* Whether it has answered, or failed, at this time or later. */
+HIDDEN bool kmip_servers_answered_since(kmip_servers *servers, int which, double when);
+HIDDEN bool kmip_servers_failed_since(kmip_servers *servers, int which, double when);
+
+/* For how long it is still left out, and why. */
+HIDDEN double kmip_servers_out(kmip_servers *servers, int which, bool *refused, kmip_reason *why);
+
 struct kmip_client {
-    kmip_wire *wire;     /* a null pointer once the connection is lost */
-    kmip_settings again; /* what opens it again: with no context, it is not */
-    pid_t owner;         /* the process that opened it */
-    char *host, *port, *user, *password;
+    kmip_wire *wire;    /* a null pointer once the connection is lost */
+    double opened_at;   /* when it was opened, by kmip_now */
+    kmip_process owner; /* the process that opened it */
+    char *user, *password;
+    kmip_servers *servers;
+    int at;                     /* the server of the connection, or the last tried */
+    int pending_at;             /* the one of which the last call is that is pending; -1: none */
+    char *server_name;          /* what each certificate has to have; null: its host */
+    struct ssl_ctx_st *context; /* what connects: no file is read again, no passphrase kept */
+    struct ossl_lib_ctx_st *library;
+    bool reconnects;    /* a connection that is lost is opened again */
+    double max_age;     /* the most seconds that a connection is used; 0: no end */
+    double seconds;     /* the time of the opening, and of each call; 0: no deadline */
+    double end;         /* when that is over */
+    uint32_t tried;     /* the servers that failed within it, a bit for each, .. */
+    char reasons[2048]; /* .. and why */
     uint32_t limit;
     int status;
-    bool sent;        /* whether a part of the last request was handed to a connection */
-    bool torn;        /* whether the last exchange failed by its connection, and in time, .. */
+    bool sent;        /* whether a part of the last request was handed to a connection, .. */
+    bool sent_before; /* .. and before the last try of it */
+    bool torn;        /* whether the last exchange failed by its connection, .. */
+    bool late;        /* .. since its time was over, .. */
+    bool refused;     /* .. or since the server refused the certificate .. */
     char reason[300]; /* .. and why */
     kmip_room request, response, line, value, pem;
     size_t request_len, response_len;
@@ -112,8 +208,20 @@ HIDDEN uint8_t *kmip_item_id_in(uint8_t *request);
 /* Whether a call of this name changes nothing, so that it may be made twice. */
 HIDDEN bool kmip_is_changeless(const char *operation);
 
+/* Opens a connection to the first server, in its turn, with which that comes about: KMIP_ANSWERED, or
+   the status of what went wrong, and why in client->reasons. */
+HIDDEN int kmip_open_any(kmip_client *client);
+
+/* Whether a connection that is lost is opened again: not in the child of a fork. */
+HIDDEN bool kmip_reconnects(const kmip_client *client);
+
+/* Tells the log what has happened, with the server in front. */
+PRINTS(4, 5)
+HIDDEN void kmip_log_event(kmip_client *client, kmip_event_kind what, int status,
+                           const char *format, ...);
+
 /* Sends the request, and reads the response; where that is wanted and harmless, once more on a new
-   connection. KMIP_ANSWERED, or the status of what went wrong. */
+   connection, or with each other server. KMIP_ANSWERED, or the status of what went wrong. */
 HIDDEN int kmip_exchange(kmip_client *client, size_t request_len, bool is_changeless);
 
 /* Says what the response answers to the call, whose line is kept. The connection is left as it
@@ -141,26 +249,69 @@ HIDDEN int kmip_fails_as(kmip_client *client, int status, const char *kind, cons
 HIDDEN int kmip_says_no_memory(kmip_client *client);
 HIDDEN int kmip_out_of_memory(kmip_client *client);
 
-/* Connects; a null pointer where there is no connection. Then `reason` says why, and `status` is
-   KMIP_LOST or KMIP_NO_MEMORY. */
-HIDDEN kmip_wire *kmip_wire_open(const kmip_settings *settings, int *status, char *reason,
-                                 size_t room);
+/* What connects to servers, with what the settings say of certificates: a reference of the caller's;
+   or a null pointer, and why. */
+struct ssl_st;
+HIDDEN struct ssl_ctx_st *kmip_context_of(const kmip_settings *settings, kmip_reason *why);
 
-/* From here on the wire has the time of one call. */
-HIDDEN void kmip_wire_begin(kmip_wire *wire);
+/* The connections that are made side by side to the addresses of a host, which are looked up; a null
+   pointer, and why. */
+typedef struct kmip_race kmip_race;
+HIDDEN kmip_race *kmip_race_begin(const char *host, const char *port, const kmip_time *time,
+                                  kmip_reason *why);
+
+/* The socket of the first that is connected, or -1; why is added. */
+HIDDEN int kmip_race_next(kmip_race *race, const kmip_time *time, kmip_reason *why);
+
+/* How many addresses are left. */
+HIDDEN size_t kmip_race_left(const kmip_race *race);
+HIDDEN void kmip_race_end(kmip_race *race);
+
+/* The way to a server.
+
+   context, library   of kmip_context_of, and of the settings
+   host, port         where it is
+   name               what its certificate has to have; null: the host
+   time               in which the connection has to be open */
+typedef struct {
+    struct ssl_ctx_st *context;
+    struct ossl_lib_ctx_st *library;
+    const char *host, *port, *name;
+    kmip_time time;
+} kmip_way;
+
+/* Connects; a null pointer where there is no connection, and why. Then `status` is KMIP_LOST or
+   KMIP_NO_MEMORY, and `refused` says whether the server refused the certificate. */
+HIDDEN kmip_wire *kmip_wire_open(const kmip_way *way, int *status, bool *refused, kmip_reason *why);
+
+/* From here on the wire has this time; and also has sent nothing. */
+HIDDEN void kmip_wire_until(kmip_wire *wire, const kmip_time *time);
+HIDDEN void kmip_wire_begin(kmip_wire *wire, const kmip_time *time);
 
 /* Whether the connection is open, and has no bytes to read that nobody asked for. */
 HIDDEN bool kmip_wire_is_idle(kmip_wire *wire);
 
 HIDDEN bool kmip_wire_write(kmip_wire *wire, const uint8_t *bytes, size_t count);
-HIDDEN bool kmip_wire_read(kmip_wire *wire, uint8_t *into, size_t count);
+
+/* Reads until there are `count` bytes, of which `done` are there, and counts them. */
+HIDDEN bool kmip_wire_read(kmip_wire *wire, uint8_t *into, size_t count, size_t *done);
 
 /* Why the last of these calls was false, and whether it was since the time was over. */
 HIDDEN const char *kmip_wire_reason(const kmip_wire *wire);
 HIDDEN bool kmip_wire_is_late(const kmip_wire *wire);
 
-/* What connects to any server as this wire does: a reference of the caller's. */
-HIDDEN struct ssl_ctx_st *kmip_wire_context(const kmip_wire *wire);
+/* Of one whose time was over: it has more. */
+HIDDEN void kmip_wire_goes_on(kmip_wire *wire);
+
+/* Whether the server has refused the certificate, and so has read nothing of what was sent. */
+HIDDEN bool kmip_wire_is_refused(const kmip_wire *wire);
+
+/* Whether the handshake that was made is one by which it is known who the server is, and what is sent
+   is for it alone: TLS 1.2 or later, a cipher of 112 bits or more, no earlier session, and a
+   certificate that names the host and whose chain is verified anew, by the authorities of the
+   context and with no callback of it. `library`: the OSSL_LIB_CTX of the context, or null. */
+HIDDEN bool kmip_is_known(struct ssl_st *tls, struct ossl_lib_ctx_st *library, const char *host,
+                          kmip_reason *why);
 
 /* The time in seconds. Without a clock each deadline is over. */
 HIDDEN double kmip_now(void);

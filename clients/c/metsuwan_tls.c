@@ -9,31 +9,17 @@
 #include <stdio.h>
 #include <stdlib.h>
 #include <string.h>
-#include <unistd.h>
-
-#define PIECE 65536
 
 static const uint8_t *bytes_of(const char *text) {
     return (const uint8_t *)text;
 }
 
-/* Whether it is a port, by its number or by its name in /etc/services. getaddrinfo takes a number
-   past the last one modulo 65536, for another port. */
-static bool is_port(const char *port) {
-    size_t digits = strspn(port, "0123456789");
-    if (!port[digits]) {
-        long number = digits <= 5 ? strtol(port, NULL, 10) : 0;
-        return number >= 1 && number <= 65535;
-    }
-    return strpbrk(port, "abcdefghijklmnopqrstuvwxyzABCDEFGHIJKLMNOPQRSTUVWXYZ") != NULL;
-}
-
 /* Settings of this version, from those of the same or of an older one, which end sooner; false
    where they are neither. */
 static bool read_settings(const kmip_settings *given, kmip_settings *into) {
-    static const size_t sizes[] = {offsetof(kmip_settings, library),
-                                   offsetof(kmip_settings, reconnect),
-                                   offsetof(kmip_settings, record), sizeof *into};
+    static const size_t sizes[] = {
+        offsetof(kmip_settings, library), offsetof(kmip_settings, reconnect),
+        offsetof(kmip_settings, record), offsetof(kmip_settings, server), sizeof *into};
     size_t size;
     memcpy(&size, given, sizeof size);
     *into = kmip_defaults();
@@ -59,19 +45,28 @@ static const char *wrong_identity(const kmip_settings *settings) {
     return NULL;
 }
 
+/* What is wrong with which servers are asked, or a null pointer; those of a list are looked at where
+   it is read. */
+static const char *wrong_servers(const kmip_settings *settings) {
+    const char *name = settings->server_name, *order = settings->order;
+    if (order && strcmp(order, "first") != 0 && strcmp(order, "turns") != 0)
+        return "order is neither first nor turns";
+    if (name && (!*name || *name == '.' || strlen(name) > 255))
+        return "server_name is no name, and no address";
+    if (!settings->server) return kmip_wrong_server(settings->host, settings->port);
+    return settings->host || settings->port ? "server stands in the place of host and port" : NULL;
+}
+
 /* What is wrong with settings, or a null pointer. */
 static const char *wrong_setting(const kmip_settings *settings) {
-    const char *wrong = wrong_identity(settings);
-    if (!settings->host || !*settings->host) return "host is not given";
-    /* OpenSSL takes it for any name below it. */
-    if (*settings->host == '.') return "host begins with a dot, and is none";
-    if (!settings->port || !*settings->port) return "port is not given";
-    if (!is_port(settings->port)) return "port is no number of 1 to 65535, and no name";
+    const char *wrong = wrong_servers(settings);
+    if (!wrong) wrong = wrong_identity(settings);
     if (wrong) return wrong;
     if (!settings->user != !settings->password) return "a credential is a user and a password";
     if (settings->user && !kmip_is_utf8(settings->user)) return "user is not UTF-8";
     if (settings->password && !kmip_is_utf8(settings->password)) return "password is not UTF-8";
     if (!(settings->seconds >= 0 && settings->seconds < 1e9)) return "seconds are 0 to 1e9";
+    if (!(settings->max_age >= 0 && settings->max_age < 1e9)) return "max_age is 0 to 1e9";
     return NULL;
 }
 
@@ -80,9 +75,12 @@ static void free_client(kmip_client *client) {
     if (!client) return;
     kmip_copy_free(client->user);
     kmip_copy_free(client->password);
-    kmip_copy_free(client->host);
-    kmip_copy_free(client->port);
-    SSL_CTX_free(client->again.context);
+    kmip_copy_free(client->server_name);
+    /* (in a child another thread of the parent may have had a lock of OpenSSL's, or of the list) */
+    if (kmip_process_is(&client->owner)) {
+        SSL_CTX_free(client->context);
+        kmip_servers_leave(client->servers);
+    }
     kmip_room_free(&client->request);
     kmip_room_free(&client->response);
     kmip_room_free(&client->line);
@@ -97,53 +95,68 @@ static kmip_client *client_of(const kmip_settings *settings) {
     if (!client) return NULL;
     client->limit = settings->limit;
     client->status = KMIP_LOST;
-    client->owner = getpid();
     client->log = settings->log;
     client->log_data = settings->log_data;
     client->record = settings->record;
     client->record_data = settings->record_data;
-    client->host = kmip_copy_of(settings->host);
-    client->port = kmip_copy_of(settings->port);
+    client->library = settings->library;
+    client->seconds = settings->seconds;
+    client->max_age = settings->max_age;
+    client->pending_at = -1;
+    bool has_name = settings->server_name != NULL;
+    if (has_name) client->server_name = kmip_copy_of(settings->server_name);
     if (settings->user) {
         client->user = kmip_copy_of(settings->user);
         client->password = kmip_copy_of(settings->password);
     }
     /* Without its copy each request would go out with no credential. */
     bool has_all = !settings->user || (client->user && client->password);
-    if (client->host && client->port && has_all) return client;
+    bool is_here = kmip_process_here(&client->owner);
+    if (has_all && is_here && (!has_name || client->server_name)) return client;
     free_client(client);
     return NULL;
 }
 
-/* Keeps what opens the connection again, where that is wanted: no file is read then, and no
-   passphrase is kept. */
-static bool keep_settings(kmip_client *client, const kmip_settings *settings) {
-    if (!settings->reconnect) return true;
-    client->again = kmip_defaults();
-    client->again.host = client->host;
-    client->again.port = client->port;
-    client->again.seconds = settings->seconds;
-    client->again.context = kmip_wire_context(client->wire);
-    return client->again.context != NULL;
+/* Begins the time of the opening, or of a call, and the list of what failed within it. */
+static void begin_time(kmip_client *client, const char *operation) {
+    client->operation = operation;
+    client->begun = kmip_now();
+    client->end = client->seconds > 0 ? client->begun + client->seconds : 0;
+    client->tried = 0;
+    client->reasons[0] = 0;
+}
+
+/* Opens a connection with what the files say: KMIP_ANSWERED, or what went wrong, and why in
+   client->reasons. */
+static int open_first(kmip_client *client, const kmip_settings *settings) {
+    kmip_reason why = {""};
+    begin_time(client, "open");
+    client->context = kmip_context_of(settings, &why);
+    client->reconnects = settings->reconnect || client->servers->count > 1;
+    if (client->context) return kmip_open_any(client);
+    snprintf(client->reasons, sizeof client->reasons, "%s", why.text);
+    return KMIP_LOST;
 }
 
 /* Opens a client with settings of this version. */
 static int connect_by(const kmip_settings *settings, kmip_client **into, char *error, size_t room) {
-    char reason[256] = "out of memory";
     const char *wrong = wrong_setting(settings);
-    if (wrong) {
+    kmip_servers *servers = wrong ? NULL : kmip_servers_of(settings, &wrong);
+    if (wrong && strcmp(wrong, KMIP_SERVERS_MEMORY) != 0) {
         kmip_error_line(error, room, "ConfigurationError", wrong);
         return KMIP_CALL_GRAMMAR;
     }
-    int status = KMIP_NO_MEMORY;
-    kmip_client *client = client_of(settings);
-    if (client) client->wire = kmip_wire_open(settings, &status, reason, sizeof reason);
-    if (client && client->wire && keep_settings(client, settings)) {
+    kmip_client *client = servers ? client_of(settings) : NULL;
+    if (client)
+        client->servers = servers;
+    else
+        kmip_servers_leave(servers);
+    int status = client ? open_first(client, settings) : KMIP_NO_MEMORY;
+    if (status == KMIP_ANSWERED) {
         *into = client;
-        return KMIP_ANSWERED;
+        return status;
     }
-    if (client) kmip_wire_close(client->wire);
-    kmip_error_line(error, room, "ConnectError", reason);
+    kmip_error_line(error, room, "ConnectError", client ? client->reasons : "out of memory");
     free_client(client);
     return status;
 }
@@ -209,14 +222,12 @@ int kmip_out_of_memory(kmip_client *client) {
     return kmip_ends_as(client, kmip_says_no_memory(client));
 }
 
-/* Tells the log what has happened, with the server in front. */
-PRINTS(4, 5)
-static void log_event(kmip_client *client, kmip_event_kind what, int status, const char *format,
-                      ...) {
+void kmip_log_event(kmip_client *client, kmip_event_kind what, int status, const char *format,
+                    ...) {
     char text[700];
     va_list given;
     if (!client->log) return;
-    int front = snprintf(text, sizeof text, "%.300s:%.40s: ", client->host, client->port);
+    int front = snprintf(text, sizeof text, "%.340s: ", kmip_server_of(client));
     va_start(given, format);
     if (front > 0) vsnprintf(text + front, sizeof text - (size_t)front, format, given);
     va_end(given);
@@ -233,19 +244,12 @@ void kmip_tell_call(kmip_client *client, const char *call) {
     double milliseconds = (kmip_now() - client->begun) * 1000;
     const char *kind = kmip_member(kmip_line(client), "error");
     if (client->response_len == 0 && kind)
-        log_event(client, KMIP_EVENT_CALL, client->status, "%.60s: %.*s, %.1f ms", call,
-                  (int)strcspn(kind + 1, "\""), kind + 1, milliseconds);
+        kmip_log_event(client, KMIP_EVENT_CALL, client->status, "%.60s: %.*s, %.1f ms", call,
+                       (int)strcspn(kind + 1, "\""), kind + 1, milliseconds);
     else
-        log_event(client, KMIP_EVENT_CALL, client->status,
-                  "%.60s: status %d, %zu bytes sent, %zu read, %.1f ms", call, client->status,
-                  client->request_len, client->response_len, milliseconds);
-}
-
-/* Keeps that the connection failed, and whether its time was not over. */
-static int wire_fails(kmip_client *client, const char *kind, const char *after) {
-    snprintf(client->reason, sizeof client->reason, "%s%s", kmip_wire_reason(client->wire), after);
-    client->torn = !kmip_wire_is_late(client->wire);
-    return kmip_fails_as(client, KMIP_LOST, kind, client->reason);
+        kmip_log_event(client, KMIP_EVENT_CALL, client->status,
+                       "%.60s: status %d, %zu bytes sent, %zu read, %.1f ms", call, client->status,
+                       client->request_len, client->response_len, milliseconds);
 }
 
 /* How many bytes a request has at most, mostly: then it is made once. */
@@ -382,88 +386,8 @@ int kmip_read_answer(kmip_client *client) {
     return client->status = status;
 }
 
-/* Reads what follows the head of a response of this length. What is announced may never come, so
-   there is room for twice what did. */
-static int read_rest(kmip_client *client, size_t length) {
-    kmip_wire *wire = client->wire;
-    for (size_t done = KMIP_HEAD, next; done < length; done = next) {
-        next = done < PIECE ? PIECE : done > SIZE_MAX / 2 ? length : 2 * done;
-        if (next > length) next = length;
-        if (!kmip_room_has(&client->response, next)) return kmip_out_of_memory(client);
-        if (!kmip_wire_read(wire, client->response.bytes + done, next - done))
-            return wire_fails(client, "ResponseReadError", "");
-    }
-    return KMIP_ANSWERED;
-}
-
-/* Reads a response: KMIP_ANSWERED, or the status of what went wrong. */
-static int read_response(kmip_client *client) {
-    kmip_wire *wire = client->wire;
-    if (!kmip_wire_read(wire, client->response.bytes, KMIP_HEAD))
-        return wire_fails(client, "ResponseReadError", "");
-    int64_t more = kmip_contents_len(client->response.bytes, KMIP_HEAD, client->limit);
-    if (more == KMIP_LENGTH_LIMIT) {
-        char text[80];
-        snprintf(text, sizeof text, "the response is longer than the limit of %u bytes",
-                 client->limit);
-        return kmip_fails_as(client, KMIP_LOST, "DeserializeError", text);
-    }
-    if (more < 0) return kmip_fails_as(client, KMIP_LOST, "DeserializeError", "not a structure");
-    size_t length;
-    if (!kmip_response_len((uint64_t)more, &length)) return kmip_out_of_memory(client);
-    int status = read_rest(client, length);
-    if (status != KMIP_ANSWERED) return status;
-    client->response_len = length;
-    return KMIP_ANSWERED;
-}
-
-/* The three steps that nothing checks: these bytes are sent, 8 are read, and then so many. */
-static int exchange(kmip_client *client, size_t request_len) {
-    kmip_wire *wire = client->wire;
-    kmip_wire_begin(wire);
-    if (!kmip_wire_is_idle(wire))
-        return wire_fails(client, "RequestWriteError", "; nothing was sent");
-    bool written = kmip_wire_write(wire, client->request.bytes, request_len);
-    client->sent = client->sent || kmip_wire_was_sent(wire);
-    return written ? read_response(client) : wire_fails(client, "RequestWriteError", "");
-}
-
-/* Whether a connection that is lost is opened again: not in the child of a fork. */
-static bool reconnects(const kmip_client *client) {
-    return client->again.context && client->owner == getpid();
-}
-
-/* The connection, which is opened again where it was lost. */
-static int ready(kmip_client *client) {
-    char reason[256];
-    int status = KMIP_ANSWERED;
-    if (client->wire) return status;
-    client->wire = kmip_wire_open(&client->again, &status, reason, sizeof reason);
-    if (!client->wire && status == KMIP_NO_MEMORY) return kmip_out_of_memory(client);
-    if (!client->wire) return kmip_fails_as(client, KMIP_LOST, "ConnectError", reason);
-    log_event(client, KMIP_EVENT_REOPENED, KMIP_LOST,
-              "the connection was lost, and is opened again");
-    return KMIP_ANSWERED;
-}
-
-static int exchange_again(kmip_client *client, size_t request_len, bool is_changeless) {
-    bool was_open = client->wire != NULL;
-    int status = ready(client);
-    if (status == KMIP_ANSWERED) status = exchange(client, request_len);
-    /* Where the connection is new, or what was sent may have been done, that is all. */
-    bool harmless = is_changeless || !client->sent;
-    if (!was_open || !client->torn || !harmless || !reconnects(client)) return status;
-    log_event(client, KMIP_EVENT_REPEATED, KMIP_LOST, "%s: the call is made again", client->reason);
-    status = ready(client);
-    return status == KMIP_ANSWERED ? exchange(client, request_len) : status;
-}
-
-int kmip_exchange(kmip_client *client, size_t request_len, bool is_changeless) {
-    client->torn = false;
-    client->request_len = request_len;
-    int status = exchange_again(client, request_len, is_changeless);
-    if (status == KMIP_ANSWERED && !kmip_tell_record(client)) return kmip_out_of_memory(client);
-    return status;
+const char *kmip_server_of(const kmip_client *client) {
+    return client ? client->servers->at[client->at].text : "";
 }
 
 void kmip_forget_call(kmip_client *client) {
@@ -477,11 +401,10 @@ int kmip_begin(kmip_client *client, const char *operation) {
     client->response_len = 0;
     client->status = KMIP_LOST;
     client->sent = false;
-    client->operation = operation;
-    client->begun = kmip_now();
+    begin_time(client, operation);
     if (!kmip_room_has(&client->line, 4096) || !kmip_room_has(&client->response, 4096))
         return kmip_out_of_memory(client);
-    if (client->wire || reconnects(client)) return KMIP_ANSWERED;
+    if (client->wire || kmip_reconnects(client)) return KMIP_ANSWERED;
     return kmip_fails_as(client, KMIP_LOST, "RequestWriteError",
                          "the connection is closed; nothing was sent");
 }

@@ -39,16 +39,19 @@ struct ssl_ctx_st;
 
 /* What the log of a client is told. More may be added. */
 typedef enum {
-    KMIP_EVENT_CALL = 0, /* a call, or a batch, whose request was made has ended */
-    KMIP_EVENT_REPEATED, /* the connection was lost, and the call is made again */
-    KMIP_EVENT_REOPENED  /* the connection was lost, and is opened again for this call */
+    KMIP_EVENT_CALL = 0,   /* a call, or a batch, whose request was made has ended */
+    KMIP_EVENT_REPEATED,   /* the connection was lost, and the call is made again */
+    KMIP_EVENT_REOPENED,   /* the connection was lost, or old, and is opened again for this call */
+    KMIP_EVENT_SERVER_OUT, /* a server of several has failed, and is left out for a while */
+    KMIP_EVENT_SERVER_BACK /* it has answered again */
 } kmip_event_kind;
 
 /* No value of a call stands in it, and no identifier.
 
    size           of this structure, whose next version may be longer
    what           of which kind it is
-   operation      the name of the call, as sign, or of the operation, as Encrypt; "batch" of a batch
+   operation      the name of the call, as sign, or of the operation, as Encrypt; "batch" of a batch,
+                  "open" within kmip_open
    status         that of a call that has ended; of the others KMIP_LOST
    seconds        how long the call has taken until now
    text           all that in words, with the server, as "localhost:5696: sign: status 0, 288 bytes
@@ -101,8 +104,13 @@ typedef void kmip_record(void *data, const char *line, size_t length);
                   has to stay until kmip_close
    context        an SSL_CTX with a certificate, its key, and the authorities of servers: for keys
                   in hardware, revocation lists, PEM in memory. Then certificate, key, authority,
-                  passphrase and library are null. Nothing of it is changed; whatever it says, the
-                  server's certificate is verified, has to name the host, and TLS is 1.2 or later
+                  passphrase and library are null. Nothing of it is changed. Whatever it and its
+                  callbacks say, TLS is 1.2 or later with a cipher of 112 bits or more and with no
+                  earlier session, and the server has a certificate that names the host and that
+                  is verified anew after the handshake, by the authorities of the context (its
+                  SSL_CTX_set1_verify_cert_store or else its store); or nothing is sent. So a
+                  context that trusts by a pin, by DANE or by a callback of its own alone connects
+                  to no server
    reconnect      a connection that is lost is opened again for the next call, with no file read
                   again. A call itself is made again, once, where nothing of it was sent, or where
                   it changes nothing (query, discover, locate, get, attributes, sign, encrypt,
@@ -111,7 +119,26 @@ typedef void kmip_record(void *data, const char *line, size_t length);
                   time was over. The log is told
    log, log_data  what is told of each call, and what it is given; null: nobody
    record,        what is told of each exchange, and what it is given; null: nobody
-   record_data */
+   record_data
+   server         in the place of host and port, one or more, at most 16, as
+                  "a.example:5696,b.example,[::1]:5697", whose port is 5696 where none stands. They
+                  have one set of objects; docs/SEVERAL.md says what else a program has to know of
+                  them. With more than one, `reconnect` is set
+   server_name    the name or the address that each certificate has to have in the place of the host,
+                  which is also asked for (SNI); null: the host
+   order          "first": a connection is to the first server that is not left out. "turns": each
+                  is to the next, the first to any. Null: first
+   max_age        the most seconds that a connection is used, where it is opened again; 0: no end
+
+   Several servers have one deadline. Each has an equal part of what is left, for connecting and TLS
+   at most 5 seconds, and the last has all; so `seconds` are the slowest answer times the servers. It
+   goes on to the next server where there is no connection, where nothing of a request was sent, and
+   where a call that changes nothing was not answered in its part of the time, but for a server that
+   has answered another call meanwhile. What makes or changes is sent to no second server once a
+   byte of it was sent; then the line says to which it was. What was answered is answered, refusals
+   too. A server that failed is left out for 1 second, twice as long at each failure more, at most
+   60, until it answers. `poll` and `cancel` go to the server of the call that is pending. Under
+   KMIP's Usage Limits a `sign`, `encrypt`, `decrypt` or `mac` that is made again may count twice */
 typedef struct {
     size_t size;
     const char *host, *port;
@@ -127,6 +154,8 @@ typedef struct {
     void *log_data;
     kmip_record *record;
     void *record_data;
+    const char *server, *server_name, *order;
+    double max_age;
 } kmip_settings;
 
 /* What settings begin with: a limit of 1048576 bytes, 30 seconds, and nothing else. */
@@ -148,13 +177,17 @@ static inline kmip_settings kmip_defaults(void) {
                               NULL,
                               NULL,
                               NULL,
-                              NULL};
+                              NULL,
+                              NULL,
+                              NULL,
+                              NULL,
+                              0.0};
     return settings;
 }
 
 /* Connects. A null pointer where there is no connection; then `error`, of `room` bytes, is a line
    of JSON that says why, as {"error":"ConnectError","text":"connect: Connection refused"}, cut to
-   its room. 300 bytes are enough for all that OpenSSL says. */
+   its room. 300 bytes are enough for all that OpenSSL says of one server, 2048 for all of several. */
 kmip_client *kmip_open(const kmip_settings *settings, char *error, size_t room);
 
 /* The same, with a status: KMIP_ANSWERED, and the client is written to `client`; KMIP_CALL_GRAMMAR,
@@ -354,12 +387,16 @@ typedef enum {
     KMIP_KIND_NO_MESSAGE,             /* lost: what came is no message, or longer than the limit */
     KMIP_KIND_OTHER_ANSWER,           /* lost: what came answers for another object or call */
     KMIP_KIND_MEMORY,                 /* out of memory */
-    KMIP_KIND_CONNECT,                /* lost: the connection was, and could not be opened again */
+    KMIP_KIND_CONNECT,                /* lost: the connection was, and could not be opened again; or
+                                         the server refused the certificate, and read no request */
     KMIP_KIND_NOT_DONE                /* the server has not done this call of a batch */
 } kmip_kind;
 
 /* A null client is KMIP_KIND_WRITE: its calls are lost, and send nothing. */
 kmip_kind kmip_error_kind(const kmip_client *client);
+
+/* The server that was asked last, as "a.example:5696"; "" of a null client. */
+const char *kmip_server_of(const kmip_client *client);
 
 /* Whether the request of the last call, or a part of it, was handed to the connection. False means
    that the server has seen nothing of it, so that the call may be made again on another client;

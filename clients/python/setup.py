@@ -26,8 +26,9 @@ except ImportError:  # setuptools before 70.1
 
 
 HERE = pathlib.Path(__file__).resolve().parent
-VERSION = re.findall(r"^__version__ = '(.*)'$", (HERE / 'metsuwan/__init__.py').read_text('utf-8'),
-                     re.M)[0]
+# The one place of the version; in a wheel the copy of it says what the library is.
+PLACE = 'metsuwan/version.py'
+VERSION = re.findall(r"^__version__ = '(.*)'$", (HERE / PLACE).read_text('utf-8'), re.M)[0]
 # The oldest C library that a wheel can be tagged with.
 OLDEST = 17
 
@@ -84,6 +85,9 @@ class WithLibrary(build_py):
         target.parent.mkdir(parents=True, exist_ok=True)
         shutil.copyfile(given, target)
         target.chmod(0o755)
+        place = pathlib.Path(self.build_lib, PLACE)
+        text = (HERE / PLACE).read_text('utf-8')
+        place.write_text(text.replace("'%s'" % VERSION, "'%s'" % version()), 'utf-8')
 
 
 class OfOneMachine(bdist_wheel):

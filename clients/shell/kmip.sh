@@ -327,12 +327,15 @@ kmip_can_open() { # CERTIFICATE KEY AUTHORITY
 }
 
 # Leaves in KMIP_WORDS the words of `openssl s_client`. -nocommands: without it a block of input that begins with Q, R, K
-# or k is a command, and lost. -pass: without it openssl asks the terminal. Descriptors 8 and 9 are kmip_carry's.
+# or k is a command, and lost. -pass: without it openssl asks the terminal. Descriptors 8 and 9 are kmip_carry's. By the
+# protocol and the ciphers, no openssl.cnf lets a server in that has no certificate or encrypts nothing.
 kmip_client_words() { # HOST:PORT CERTIFICATE KEY AUTHORITY
     local host=${1%:*}
     host=${host#[} host=${host%]} host=${host%.}
     KMIP_WORDS=(s_client -quiet -verify_quiet -no_ign_eof -nocommands -connect "$1" -verify_return_error
-        -cert "$2" -key "$3" -CAfile "$4" -no-CApath -no-CAstore -partial_chain -no_renegotiation)
+        -cert "$2" -key "$3" -CAfile "$4" -no-CApath -no-CAstore -partial_chain -no_renegotiation
+        -min_protocol TLSv1.2 -cipher 'DEFAULT:!aNULL:!eNULL:!PSK:!SRP'
+        -ciphersuites TLS_AES_256_GCM_SHA384:TLS_CHACHA20_POLY1305_SHA256:TLS_AES_128_GCM_SHA256)
     if [[ $host =~ ^[0-9.]+$ || $host == *:* ]]; then
         KMIP_WORDS+=(-verify_ip "$host" -noservername)
     else

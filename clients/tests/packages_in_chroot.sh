@@ -109,6 +109,42 @@ calls_by_c() { # WHAT FOLDER-WITH-PKGCONFIG SYSROOT [VARIABLE=VALUE]
     says 'and is answered' '^\{"answer":\{"operations":'
 }
 
+# The lines of docs/OPENSSL.md by which OpenSSL finds the tarball's module and its own too.
+beside_legacy() {
+    if [[ ! -e $root/opt/it/lib/ossl-modules/metsuwan.so ]]; then return; fi
+    ln -s it "$root/opt/metsuwan-it"
+    {
+        echo 'cd /opt'
+        sed -n '/^modules=/,/^export/p' "$top/docs/OPENSSL.md"
+        echo "export METSUWAN_SERVER=localhost:$port METSUWAN_CERTIFICATE=/certs/client.pem METSUWAN_KEY=/certs/client.key"
+        echo 'METSUWAN_AUTHORITY=/certs/ca.pem openssl list -providers -provider default -provider legacy -provider metsuwan'
+    } >"$root/modules.sh"
+    does 'the tarball: a provider by OPENSSL_MODULES' bash /modules.sh
+    says 'which does not hide legacy' '^  legacy$'
+    says 'and is there' '^  metsuwan$'
+}
+
+# README's opening and "Sign" as they stand there, with nothing but the release and a server's package, in less than a minute
+# once these are installed.
+readme() { # WHAT COMMAND: that puts the release on the path
+    local from
+    does "$1: the server to try things with is installed" \
+        bash -c 'apt-get update && apt-get install -y --no-install-recommends python3-pykmip openssl jq'
+    {
+        echo "$2"
+        awk '/^    \$ / { sub(/^    \$ /, ""); print }' "$top/README.md" |
+            sed 's|tools/test_server.sh|kmip_test_server|; s|clients/shell/||; s|localhost:5696|localhost:$port|' |
+            sed 's|^kmip_test_server start|&; port=$(sed -n s/^port=//p built/test_server/server.conf)|'
+    } >"$root/readme.sh"
+    from=$SECONDS
+    does "$1: its lines" bash -c 'cd /tmp && bash /readme.sh'
+    says 'the request is shown' '^\{"tag":"RequestMessage"'
+    says 'a pair is made' '^\{"answer":\{"private_key":"2","public_key":"1"\}\}$'
+    says 'and the key signs' '^[0-9A-F]{512}$'
+    ((SECONDS - from < 60 * slack))
+    verdict "in less than a minute ($((SECONDS - from)) s)"
+}
+
 tarball() {
     begin tarball
     mkdir "$root/opt/it" && tar -xzf "$run"/release/metsuwan-*.tar.gz -C "$root/opt/it" --strip-components 1
@@ -126,6 +162,8 @@ tarball() {
     fi
     does 'what kmip.sh wants is installed' bash -c 'apt-get update && apt-get install -y --no-install-recommends openssl jq'
     calls_by_bash 'tarball: calls by bash' /opt/it/bin
+    beside_legacy
+    readme 'tarball: README' 'PATH=/opt/it/bin:$PATH'
     calls_by_c 'tarball: a program in C' "$root/opt/it/lib/pkgconfig" '' LD_LIBRARY_PATH=/opt/it/lib
 }
 
@@ -143,6 +181,7 @@ package() {
     within dpkg -V metsuwan >"$said" 2>&1 && [[ ! -s $said ]]
     verdict 'its files are as they were packed'
     calls_by_bash 'package: calls by bash' /usr/bin
+    readme 'package: README' :
     calls_by_c 'package: a program in C' "$root/usr/lib/x86_64-linux-gnu/pkgconfig" "$root"
     if [[ -e $root/usr/lib/x86_64-linux-gnu/ossl-modules/metsuwan.so ]]; then
         cat >"$root/openssl.cnf" <<CNF

@@ -12,6 +12,7 @@
 #   wrong_host       a server that is named other.example
 #   cn_only          a server whose subject is localhost, and that has no alternative name
 #   wildcard         a server that is named k*.example.test
+#   self_signed      a server named localhost, of no authority
 #   expired_server   a server named localhost, whose certificate ended long ago
 #   expired          a client, alice, whose certificate ended long ago
 #   plain            a client, bob, whose certificate is not made for clients
@@ -87,6 +88,9 @@ make_all() { # DIR few|all
     leaf cn_only /CN=localhost "$of_server"
     leaf wildcard /CN=wildcard "${of_server}subjectAltName=DNS:k*.example.test\n"
     leaf plain /CN=bob 'basicConstraints=CA:FALSE\n'
+    # shellcheck disable=SC2086 # several words
+    openssl req -x509 $new_key -days 30 -subj /CN=localhost -addext 'subjectAltName=DNS:localhost' \
+        -addext 'extendedKeyUsage=serverAuth' -keyout self_signed.key -out self_signed.pem
     expired expired_server /CN=localhost "$localhost"
     expired expired /CN=alice "$of_client"
     openssl pkey -in client.key -aes256 -passout 'pass:geheim & co' -out encrypted.key

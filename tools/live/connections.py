@@ -131,10 +131,10 @@ def listen(name, serve, host='127.0.0.1'):
     threading.Thread(target=serve, args=(listener,), daemon=True).start()
 
 
-def context_of(certs, name):
+def context_of(certs, name, authority='ca'):
     context = ssl.SSLContext(ssl.PROTOCOL_TLS_SERVER)
     context.load_cert_chain('%s/%s.pem' % (certs, name), '%s/%s.key' % (certs, name))
-    context.load_verify_locations(certs + '/ca.pem')
+    context.load_verify_locations('%s/%s.pem' % (certs, authority))
     context.verify_mode = ssl.CERT_OPTIONAL
     context.sslsocket_class = Wire
     # So that it is known whether a connection was ended in order.

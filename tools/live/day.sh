@@ -41,7 +41,7 @@ operate() { # OPERATION ITEM..
     local payload words=("$host" "$port" "$certificate" "$key" "$authority")
     payload=$(items RequestPayload "${@:2}")
     case $client in
-    shell) client_run call operation "$1" "$payload" ;;
+    shell | command) client_run call operation "$1" "$payload" ;;
     c) timeout -k 2 $((90 * slack)) "$work/operate" "${words[@]}" "$1" "$payload" ;;
     python)
         PYTHONPATH=$top/clients/python LIBMETSUWAN=$built/libmetsuwan.so timeout -k 2 $((90 * slack)) \

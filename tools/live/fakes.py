@@ -26,6 +26,7 @@ import sys
 import threading
 import time
 
+import handshakes
 import records
 from connections import by_records, by_steps, connection, context_of, finish, listen, serve_each
 from registry import (ADD_ATTRIBUTE, CREATE_KEY_PAIR, DELETE_ATTRIBUTE, FAKES, GET, MODIFY_ATTRIBUTE, PLAIN, QUERY,
@@ -37,7 +38,7 @@ for name in 'objects', 'curves', 'ciphers':      # fakes of their own
     importlib.import_module(name)
 
 # The server's certificate is that of certs.sh with this name; what it answers is good.
-CERTIFICATES = ('expired_server', 'wrong_host', 'cn_only', 'wildcard', 'of_between', 'address', 'other/server')
+CERTIFICATES = ('expired_server', 'self_signed', 'wrong_host', 'cn_only', 'wildcard', 'of_between', 'address', 'other/server')
 FOR_EVER = 1 << 30      # seconds
 
 GOOD_QUERY = response(QUERY, [enumeration(0x42005C, 1), text(0x42009D, 'fake')])
@@ -165,11 +166,14 @@ class Kept:
 
 def batch_answer(body):
     """What `good` answers to a batch item, `transparent` to get, or `ciphers` about `aes` and `secret`, with its Unique Batch
-    Item ID, but for `unnamed`; about `failing` that it is not found, about `other operation` as that of Destroy."""
+    Item ID, but for `unnamed`; about `failing` that it is not found, about `undone` that it is undone, about `other operation`
+    as that of Destroy."""
     asked, operation = value_of(body, '420094', 7), operation_of(body)
     name = b'' if asked == b'unnamed' else octets(0x420093, value_of(body, '420093', 8) or b'')
     if asked == b'failing':
         return structure(0x42000F, enumeration(0x42005C, operation), name, enumeration(0x42007F, FAILED), enumeration(0x42007E, 1))
+    if asked == b'undone':
+        return structure(0x42000F, enumeration(0x42005C, operation), name, enumeration(0x42007F, UNDONE))
     other = 'transparent' if operation == GET else 'ciphers' if asked in (b'aes', b'secret') else 'good'
     answer = Kept(FAKES[other], body).sent
     one = items_of(answer)[0]
@@ -181,7 +185,7 @@ def batch_answer(body):
 @own_ids
 def batches(wire, request):
     """answers each item of a batch as `good` does, get as `transparent`, and what is asked about `aes` and `secret` as
-    `ciphers`, the last one first; about `failing` it fails, and where the batch ends at a failure, those after it are not
+    `ciphers`, the last one first; about `failing` it fails, about `undone` it has undone it, and where the batch ends at a failure, those after it are not
     answered; with the item `unknown` comes one that was not asked for, `twice` is answered twice, `left out` is not, the answer
     about `unnamed` does not say of which item it is, and that about `other operation` is to Destroy"""
     made = []
@@ -641,6 +645,16 @@ def early(wire, request):
 
 
 @fake
+def refuses(wire, request):
+    """refuses the client's certificate by TLS 1.3, where that is after the client's handshake, and resets the connection"""
+
+
+@fake
+def refuses_by_1_2(wire, request):
+    """refuses the client's certificate by TLS 1.2, within the handshake"""
+
+
+@fake
 def tickets(wire, request):
     """sends session tickets without an end in place of an answer, 900 a record"""
     while True:
@@ -665,8 +679,9 @@ def reach(certs, ports):
 
 def main():
     if sys.argv[1:] == ['--list']:
-        for name, function in {**FAKES, **PLAIN}.items():
-            print('%-16s %s' % (name, function.__doc__))
+        said = {name: function.__doc__ for name, function in {**FAKES, **PLAIN}.items()}
+        for name, does in {**said, **handshakes.ALL}.items():
+            print('%-16s %s' % (name, does))
         print('%-16s %s' % ('/'.join(CERTIFICATES), 'is good, but for its certificate'))
         print('%-16s %s' % ('address6', 'is good, at ::1, with the certificate `address`'))
         print('%-16s %s' % ('nobody', 'is a port where nobody listens, and that no other process gets'))
@@ -685,6 +700,12 @@ def main():
             # In TLS 1.2 the last bytes of the handshake are the server's.
             context.maximum_version = ssl.TLSVersion.TLSv1_2
             serve, words = by_steps, (name, context, GOOD_QUERY)
+        elif name.startswith('refuses'):
+            context = context_of(certs, certificate, 'other/ca')
+            context.minimum_version = context.maximum_version = (
+                ssl.TLSVersion.TLSv1_2 if name.endswith('1_2') else ssl.TLSVersion.TLSv1_3)
+            context.verify_mode = ssl.CERT_REQUIRED
+            words = name, context
         elif name == 'end_after':
             serve, words = by_steps, (name, context, b'')
         elif name.startswith('tickets'):
@@ -699,7 +720,7 @@ def main():
         listen('address6', over_tls('good', 'address'), '::1')
     except OSError:
         pass  # this machine has no IPv6
-    for name, serve in PLAIN.items():
+    for name, serve in {**PLAIN, **handshakes.servers(certs)}.items():
         listen(name, serve)
     nobody = socket.socket()
     nobody.bind(('127.0.0.1', 0))

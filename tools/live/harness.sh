@@ -5,7 +5,7 @@
 # A CASE FILE is a file of bash, which is found by its place and needs no other entry:
 #
 #   tools/live/each/TOPIC.sh             for every client but openssl, the provider
-#   clients/CLIENT/tests/live/TOPIC.sh   for one, where CLIENT is shell, c, python, rust or openssl
+#   clients/CLIENT/tests/live/TOPIC.sh   for one, where CLIENT is shell, c, python, rust, command or openssl
 #   clients/tests/live/TOPIC.sh          for what the clients are built and packed by, and the encoder; with the shell's
 #   tools/live/scripts/TOPIC.sh          for the scripts and documents of the repository; with the shell's
 #
@@ -29,7 +29,9 @@
 #   says_not WHAT REGEX      ..or has none
 #   lasts WHAT SECONDS       the last call_is took no longer than this
 #   verdict WHAT             the status of the command before is 0
-#   lines_of_tasks LANGUAGE  is no check: the lines of the tasks in this language (sh, c, python, rust), which stand in
+#   tls_server WORD..        is no check: from here on $port is that of an `openssl s_server` with these words, which says
+#                            nothing; what it read is in $work/tls_server, and `stop_tls_server` ends it
+#   lines_of_tasks LANGUAGE  is no check: the lines of the tasks in this language (sh, c, python, rust), or of the command, which stand in
 #                            the README of the client
 #   linter_says WHAT TOOL VERSION PACKAGE COMMAND..    COMMAND finds nothing; it is skipped where there is no TOOL, and what
 #                            another version than VERSION (a regex) finds is said, and fails nothing
@@ -49,7 +51,7 @@
 #   client_program NAME      sets the array `program`, which runs the client's program call, life or rotate
 
 here=$top/tools/live
-clients=(shell c python rust openssl)
+clients=(shell c python rust command openssl)
 chosen=()
 topics=()
 built=''
@@ -182,6 +184,7 @@ lines_of_tasks() { # LANGUAGE
     local file=clients/$1/README.md fence=$1
     case $1 in
     sh) file=clients/shell/README.md ;;
+    command) fence='sh' ;;
     rust) fence=rs ;; # rustdoc takes these for no tests of the crate
     esac
     awk -v fence="\`\`\`$fence" '/^## / { tasks = $0 == "## By tasks" } !tasks { next }
@@ -214,6 +217,20 @@ between() { # MODE
     disown $! # bash is not to tell how it ends
     wait_for ready "$log" $! || give_up 'between.py does not listen'
     port=$(sed -n 's/^ready //p' "$log")
+}
+
+tls_server() { # WORD..
+    : >"$work/tls_server"
+    OPENSSL_CONF=/dev/null openssl s_server -accept 127.0.0.1:0 "$@" >"$work/tls_server" 2>&1 < <(exec sleep 600) &
+    tls_server=$!
+    started+=("$tls_server")
+    disown "$tls_server"
+    wait_for '^ACCEPT ' "$work/tls_server" "$tls_server" || give_up 'openssl s_server does not listen'
+    port=$(sed -n 's/^ACCEPT .*://p' "$work/tls_server")
+}
+
+stop_tls_server() {
+    kill "$tls_server" 2>/dev/null
 }
 
 by_shell() { # CALL WORD..

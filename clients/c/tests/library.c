@@ -226,7 +226,8 @@ static void strangers(const kmip_settings *settings, const char *wanted) {
 static void sizes(const kmip_settings *settings) {
     const size_t old = offsetof(kmip_settings, library),
                  second = offsetof(kmip_settings, reconnect),
-                 third = offsetof(kmip_settings, record);
+                 third = offsetof(kmip_settings, record),
+                 fourth = offsetof(kmip_settings, server);
     const struct {
         size_t size;
         int status;
@@ -235,6 +236,7 @@ static void sizes(const kmip_settings *settings) {
         {second, KMIP_ANSWERED},      {second - 1, KMIP_CALL_GRAMMAR},
         {old - 1, KMIP_CALL_GRAMMAR}, {sizeof *settings + sizeof(void *), KMIP_CALL_GRAMMAR},
         {third, KMIP_ANSWERED},       {0, KMIP_CALL_GRAMMAR},
+        {fourth, KMIP_ANSWERED},      {fourth - 1, KMIP_CALL_GRAMMAR},
     };
     for (size_t i = 0; i < sizeof rows / sizeof *rows; i++) {
         size_t room = rows[i].size < sizeof(size_t) ? sizeof(size_t) : rows[i].size;

@@ -80,8 +80,8 @@ static void other_words(kmip_client *client) {
     const kmip_word wrong[] = {
         kmip_text_word("k"), kmip_text_word("00"), {(const uint8_t *)"hash=a\0b", 8, false}};
     check(kmip_call_array(client, "sign", wrong, 3) == KMIP_CALL_GRAMMAR &&
-              strstr(kmip_line(client), "sign: hash=a?b is none of MD2, MD4, "),
-          "a refusal that shows a byte 0 is not cut there");
+              strstr(kmip_line(client), "sign: hash= is none of MD2, MD4, "),
+          "a refusal shows no value, nor a byte 0 of it");
     check(kmip_call_words(client, "query", (const char *const[]){NULL}) == KMIP_ANSWERED,
           "the connection is good");
 }

@@ -3,7 +3,7 @@
 
        rate HOST PORT CERTIFICATE KEY AUTHORITY ID URI COUNT
 
-   Built with ../../c/metsuwan_{tls,wire,words,register,errors,records}.c and libmetsuwan.a. */
+   Built with ../../c/metsuwan_[!mv]*.c and libmetsuwan.a. */
 #define _POSIX_C_SOURCE 200809L
 #include "metsuwan_tls.h"
 

@@ -14,12 +14,16 @@ import contextvars
 import functools
 from collections import deque
 from concurrent.futures import Future, ThreadPoolExecutor
-from typing import (TYPE_CHECKING, Any, AsyncIterator, Callable, Coroutine, Deque, List, Optional,
-                    Set, TypeVar)
+from typing import (TYPE_CHECKING, Any, AsyncIterator, Callable, Coroutine, Deque, Dict, List,
+                    Optional, Set, TypeVar)
 
 from .batch import Answer, Calls
 from .client import Client
 from .errors import RequestWriteError
+from .pool import Settings
+from .processes import OfOneProcess, Process, this_process
+from .stop import STOP, Stop
+from .wire import LOOKS
 
 R = TypeVar('R')
 if TYPE_CHECKING:
@@ -66,7 +70,7 @@ class AsyncBatch(Calls):
         return await self._owner._made(self._sending())
 
 
-class AsyncClient:
+class AsyncClient(OfOneProcess):
     """One connection to a KMIP server, for asyncio. It takes the words of ``Client``, and has its
     methods, to be awaited, with their values and errors.
 
@@ -78,15 +82,15 @@ class AsyncClient:
     until it ends. A client has one thread, so its calls are made one at a time, in the order in
     which they were awaited, and none holds the loop. For calls at once there is ``AsyncPool``.
 
-    A call that is cancelled, as by ``asyncio.wait_for``, is not made if its turn has not come. Else
-    it goes on in the thread to its end, at the latest to its ``timeout``: its answer is dropped,
-    what it asked for may have been done, and the next call, or ``close``, waits for it. No two
-    calls meet on the connection, which stays good. How long a call may take is said by ``timeout``.
+    A call that is cancelled, as by ``asyncio.wait_for`` or Ctrl-C, is not made if its turn has not
+    come. Else it ends at once: the connection is closed under it, what it asked for may have been
+    done, and the client is closed, but where it opens another connection (``reconnect``).
 
     What ``record`` names is called in the thread.
     """
 
     def __init__(self, *words: Any, **settings: Any) -> None:
+        super().__init__()
         self._new = functools.partial(Client, *words, **settings)
         self._client: Optional[Client] = None
         self._thread = ThreadPoolExecutor(1, 'metsuwan')
@@ -127,6 +131,10 @@ class AsyncClient:
 
     def _close_behind(self) -> Future[None]:
         """Has the thread end the connection, and then itself, behind what it has to do."""
+        if not self._is_own():      # its thread is not here
+            closed: Future[None] = Future()
+            closed.set_result(None)
+            return closed
         if self._closing is None:
             self._closing = self._thread.submit(self._close)
             self._thread.shutdown(wait=False)
@@ -146,19 +154,40 @@ class AsyncClient:
             raise RequestWriteError('the connection is not open; nothing was sent')
         return self._client
 
+    async def _look(self, max_age: Optional[float]) -> bool:
+        """As that of ``Client``."""
+        return await self._made(functools.partial(self._ready()._look, max_age))
+
     async def _made(self, call: Callable[[], R]) -> R:
         """What a call returns that the thread makes when its turn comes."""
+        if not self._is_own():
+            raise RequestWriteError("the connection is another process's; nothing was sent")
         if self._closing is not None:
             raise RequestWriteError('the connection is closed; nothing was sent')
-        context = contextvars.copy_context()
-        future = self._thread.submit(lambda: context.run(call))
+        context, stop = contextvars.copy_context(), Stop()
+        context.run(STOP.set, stop)
+
+        def make() -> R:
+            try:
+                return context.run(call)
+            finally:
+                stop.lets_go()
+
+        future = self._thread.submit(make)
         self._calls.append(future)
         try:
             return await asyncio.wrap_future(future)
         finally:
             self._forget()
-            if not future.done():   # the wait was cancelled, and the call goes on
+            if not future.done():   # the wait was cancelled
                 _after(future, self._forget)
+                self._end_call(future, stop)
+
+    def _end_call(self, future: Future[Any], stop: Stop) -> None:
+        """Ends a call, also one whose connection is about to be opened."""
+        if not future.done():
+            stop.set()
+            asyncio.get_running_loop().call_later(LOOKS, self._end_call, future, stop)
 
     def _forget(self) -> None:
         """Keeps no call that has ended: its answer may be a key."""
@@ -206,28 +235,45 @@ class AsyncClient:
     destroy = _awaited(Client.destroy)
 
 
-class AsyncPool:
+class _Places:
+    """The places for connections that a pool has in one process."""
+
+    def __init__(self, size: int) -> None:
+        # The ones that were used last are at the end.
+        self.free: List[Optional[AsyncClient]] = [None] * size
+        # Those that were given back, and whose call, which was cancelled, has not ended.
+        self.leaving: Set[AsyncClient] = set()
+        self.waiting: Deque[asyncio.Future[Optional[AsyncClient]]] = deque()
+
+
+class AsyncPool(OfOneProcess):
     """Clients of one server, which the tasks of one loop share, as ``Pool``: up to ``size`` calls
     are made at once, each in a thread. A task that wants a client more waits, in the order of
     asking, and occupies no thread.
 
-    The words are those of ``Client``. A connection is opened when it is first wanted, and one that
-    a call has lost is not used again. Where a call was cancelled, its task goes on, and its client
-    is given to another one, and counts as free, once the call has ended in its thread.
+    The words are those of ``Client``. A connection is opened when it is first wanted, and looked at
+    before it is given out again, as of ``Pool``. A call that is cancelled has lost its connection,
+    whose place is free once the call has ended in its thread. A child of a fork has connections of
+    its own.
 
-    :param size: the most connections at a time
+    :param size: the most connections at a time; a task that wants one more waits, at most for
+        ``timeout``
+    :param max_age: the most seconds that a connection is given out after it was opened; None: as
+        long as it lasts
     """
 
-    def __init__(self, *words: Any, size: int = 4, **settings: Any) -> None:
-        if isinstance(size, bool) or not isinstance(size, int) or size < 1:
-            raise ValueError('a size is 1 or more')
-        self._new = functools.partial(AsyncClient, *words, **settings)
-        # A place for each connection; the ones that were used last are at the end.
-        self._free: List[Optional[AsyncClient]] = [None] * size
-        # Those that were given back, and whose call, which was cancelled, has not ended.
-        self._leaving: Set[AsyncClient] = set()
-        self._waiting: Deque[asyncio.Future[Optional[AsyncClient]]] = deque()
+    def __init__(self, *words: Any, size: int = 4, max_age: Optional[float] = None,
+                 **settings: Any) -> None:
+        super().__init__()
+        self._settings = Settings(words, size, max_age, settings)
+        self._new = functools.partial(AsyncClient, **self._settings.words)
+        self._states: Dict[Process, _Places] = {}
         self._is_closed = False
+
+    def _places(self) -> _Places:
+        process = this_process()
+        found = self._states.get(process)
+        return found or self._states.setdefault(process, _Places(self._settings.size))
 
     async def __aenter__(self) -> AsyncPool:
         return self
@@ -239,9 +285,10 @@ class AsyncPool:
         """Ends the connections that nobody uses, and each other when it is given back and its calls
         have ended, for which this does not wait."""
         self._is_closed = True
-        free = [client for client in self._free if client is not None]
-        self._free = [None] * len(self._free)
-        for client in (*free, *self._leaving):  # all, also where this is cancelled
+        places = self._places()
+        free = [client for client in places.free if client is not None]
+        places.free = [None] * len(places.free)
+        for client in (*free, *places.leaving):  # all, also where this is cancelled
             client._close_behind()
         for client in free:
             await client.close()
@@ -250,52 +297,70 @@ class AsyncPool:
     async def client(self) -> AsyncIterator[AsyncClient]:
         """A client for the caller alone, until the end of the block.
 
-        :raises ConnectError: there is no connection
+        :raises ConnectError: there is no connection, or none was free within ``timeout``
         :raises ValueError: the pool is closed
         """
-        client = await self._place()
+        places = self._places()
+        client = await self._place(places)
         if self._is_closed:
-            self._give_back(client)
+            self._give_back(places, client)
             raise ValueError('the pool is closed')
         if client is None:
             client = self._new()
         try:
+            if client.is_open and not await client._look(self._settings.max_age):
+                client._close_behind()
+                client = self._new()
             yield await client.open()
         finally:
-            self._give_back(client)
+            self._give_back(places, client)
 
-    async def _place(self) -> Optional[AsyncClient]:
+    async def _place(self, places: _Places) -> Optional[AsyncClient]:
         """A place of a connection, and the one that it has, when the turn has come."""
-        if self._free:
-            return self._free.pop()
-        waiter: asyncio.Future[Optional[AsyncClient]] = asyncio.get_running_loop().create_future()
-        self._waiting.append(waiter)
+        if places.free:
+            return places.free.pop()
+        loop = asyncio.get_running_loop()
+        waiter: asyncio.Future[Optional[AsyncClient]] = loop.create_future()
+
+        def is_late() -> None:
+            if not waiter.done():
+                waiter.set_exception(self._settings.no_place())
+
+        places.waiting.append(waiter)
+        seconds = self._settings.timeout
+        clock = None if seconds is None else loop.call_later(seconds, is_late)
         try:
             return await waiter
         except asyncio.CancelledError:
-            if not waiter.cancelled():      # it came all the same
-                self._give_back(waiter.result())
+            if not waiter.cancelled() and waiter.exception() is None:   # it came all the same
+                self._give_back(places, waiter.result())
             raise
+        finally:
+            if clock is not None:
+                clock.cancel()
 
-    def _pass_on(self, place: Optional[AsyncClient]) -> None:
-        while self._waiting:
-            waiter = self._waiting.popleft()
+    @staticmethod
+    def _pass_on(places: _Places, place: Optional[AsyncClient]) -> None:
+        while places.waiting:
+            waiter = places.waiting.popleft()
             if not waiter.done():
                 waiter.set_result(place)
                 return
-        self._free.append(place)
+        places.free.append(place)
 
-    def _give_back(self, client: Optional[AsyncClient]) -> None:
-        if client is None:
-            self._pass_on(None)
+    def _give_back(self, places: _Places, client: Optional[AsyncClient]) -> None:
+        if places is not self._places():    # the block was entered before a fork
             return
-        self._leaving.discard(client)
+        if client is None:
+            self._pass_on(places, None)
+            return
+        places.leaving.discard(client)
         if self._is_closed or not client.is_open:
-            _after(client._close_behind(), functools.partial(self._pass_on, None))
+            _after(client._close_behind(), functools.partial(self._pass_on, places, None))
             return
         last = client._last()
         if last is None:
-            self._pass_on(client)
+            self._pass_on(places, client)
         else:
-            self._leaving.add(client)
-            _after(last, functools.partial(self._give_back, client))
+            places.leaving.add(client)
+            _after(last, functools.partial(self._give_back, places, client))

@@ -9,7 +9,7 @@ from typing import (TYPE_CHECKING, Any, Callable, Dict, Iterator, List, Mapping,
                     TypeVar, Union)
 
 from .calls import Option, Word, call_of
-from .errors import DeserializeError, GrammarError, KmipError, NotDone, OtherObject
+from .errors import DeserializeError, GrammarError, KmipError, NotDone, OtherObject, Undone
 from .items import Item
 from .library import Call, Operation
 
@@ -22,8 +22,9 @@ HEAD = 8
 STRUCTURE, INTEGER, ENUMERATION, BYTES = 1, 2, 5, 8
 HEADER, BATCH_COUNT, CONTINUATION, BATCH_ITEM = 0x420077, 0x42000D, 0x42000E, 0x42000F
 VERSION, OPERATION, ITEM_ID, RESPONSE_HEADER = 0x420069, 0x42005C, 0x420093, 0x42007A
-RESULT_STATUS = 0x42007F
-FAILED = struct.pack('>I', 1)                   # a Result Status
+REQUEST, RESPONSE, RESULT_STATUS = 0x420078, 0x42007B, 0x42007F
+# Of a Result Status.
+FAILED, PENDING, UNDONE = (struct.pack('>I', number) for number in (1, 2, 3))
 OPTIONS = {'Continue': 1, 'Stop': 2, 'Undo': 3}
 
 
@@ -64,22 +65,26 @@ def _with_id(item: bytes, item_id: bytes) -> bytes:
     return _item(BATCH_ITEM, STRUCTURE, made)
 
 
-def _split(message: bytes, header_tag: int) -> Tuple[List[Tuple[int, bytes, bytes]], List[bytes]]:
-    """The parts of a message's header, and its batch items."""
-    (_, _, contents), = _parts(message)
-    header: List[Tuple[int, bytes, bytes]] = []
-    items = []
-    for tag, _, body in _parts(contents):
-        if tag == header_tag:
-            header = list(_parts(body))
-        elif tag == BATCH_ITEM:
-            items.append(body)
-    return header, items
+def _split(message: bytes, message_tag: int,
+           header_tag: int) -> Tuple[List[Tuple[int, bytes, bytes]], List[bytes]]:
+    """The parts of a message's header, and its batch items.
+
+    :raises OtherObject: it is a message of another kind, or has another header, or none, or a part
+        that is no structure
+    :raises ValueError: it is not well formed
+    """
+    (tag, _, contents), = _parts(message)
+    parts = [(part, whole[3], body) for part, whole, body in _parts(contents)]
+    wanted = [(header_tag, STRUCTURE), *[(BATCH_ITEM, STRUCTURE)] * (len(parts) - 1)]
+    if tag != message_tag or [part[:2] for part in parts] != wanted:
+        raise OtherObject('not a response message')
+    (_, _, header), *items = parts
+    return list(_parts(header)), [body for _, _, body in items]
 
 
 def message_of(requests: List[bytes], ids: List[bytes], on_error: int) -> bytes:
     """One message of these requests with these IDs, and with the highest of their versions."""
-    split = [_split(request, HEADER) for request in requests]
+    split = [_split(request, REQUEST, HEADER) for request in requests]
     version = max(part for header, _ in split for part in header if part[0] == VERSION)
     made = b''
     for tag, whole, _ in split[0][0]:
@@ -88,7 +93,7 @@ def message_of(requests: List[bytes], ids: List[bytes], on_error: int) -> bytes:
             whole = _item(BATCH_COUNT, INTEGER, struct.pack('>i', len(requests)))
         made += version[1] if tag == VERSION else whole
     items = [_with_id(items[0], item_id) for item_id, (_, items) in zip(ids, split)]
-    return _item(0x420078, STRUCTURE, _item(HEADER, STRUCTURE, made) + b''.join(items))
+    return _item(REQUEST, STRUCTURE, _item(HEADER, STRUCTURE, made) + b''.join(items))
 
 
 def _single(header: List[Tuple[int, bytes, bytes]], item: bytes) -> bytes:
@@ -96,7 +101,7 @@ def _single(header: List[Tuple[int, bytes, bytes]], item: bytes) -> bytes:
     one = _item(BATCH_COUNT, INTEGER, struct.pack('>i', 1))
     head = b''.join(one if tag == BATCH_COUNT else whole for tag, whole, _ in header)
     rest = b''.join(whole for tag, whole, _ in _parts(item) if tag != ITEM_ID)
-    return _item(0x42007B, STRUCTURE, _item(RESPONSE_HEADER, STRUCTURE, head) +
+    return _item(RESPONSE, STRUCTURE, _item(RESPONSE_HEADER, STRUCTURE, head) +
                  _item(BATCH_ITEM, STRUCTURE, rest))
 
 
@@ -106,25 +111,47 @@ def _ids_in(item: bytes) -> List[Optional[bytes]]:
             for tag, whole, body in _parts(item) if tag == ITEM_ID]
 
 
-def _has_failed(item: bytes) -> bool:
-    """Whether a batch item says that its call has failed."""
+def _has_status(item: bytes, wanted: bytes) -> bool:
+    """Whether a batch item says that this came of its call."""
     status = [(whole[3], body) for tag, whole, body in _parts(item) if tag == RESULT_STATUS]
-    return status[:1] == [(ENUMERATION, FAILED)]
+    return status[:1] == [(ENUMERATION, wanted)]
+
+
+def is_undone(response: bytes) -> bool:
+    """Whether the response to a single call says that the server has taken back what it did."""
+    return _has_status(_split(response, RESPONSE, RESPONSE_HEADER)[1][0], UNDONE)
+
+
+def is_pending(response: bytes) -> bool:
+    """Whether a response says that its call is pending."""
+    try:
+        _, items = _split(response, RESPONSE, RESPONSE_HEADER)
+        return len(items) == 1 and _has_status(items[0], PENDING)
+    except (ValueError, OtherObject):
+        return False
+
+
+def _has_count(header: List[Tuple[int, bytes, bytes]], count: int) -> bool:
+    """Whether the Batch Count of a header is this."""
+    wanted = _item(BATCH_COUNT, INTEGER, struct.pack('>i', count))
+    return [whole for tag, whole, _ in header if tag == BATCH_COUNT] == [wanted]
 
 
 def responses_of(message: bytes, ids: List[bytes], on_error: int) -> List[bytes]:
     """Of each call, by these IDs, the response, or no bytes where the server has not done it.
 
     :raises DeserializeError: the message is not well formed
-    :raises OtherObject: an item of it is of no call, or two are of one, or a call has none where no
-        call before it failed
+    :raises OtherObject: it is no response, or has another Batch Count than it has items, or an item
+        of it is of no call, or two are of one, or a call has none where no call before it failed
     """
     try:
-        header, items = _split(message, RESPONSE_HEADER)
+        header, items = _split(message, RESPONSE, RESPONSE_HEADER)
         named = [_ids_in(item) for item in items]
-        failed = [_has_failed(item) for item in items]
+        failed = [_has_status(item, FAILED) for item in items]
     except ValueError as error:
         raise DeserializeError(str(error)) from None
+    if not _has_count(header, len(items)):
+        raise OtherObject('the Batch Count is not that of the items of the response')
     if failed == [True] and not named[0]:
         # A failure of the whole message, as where a server takes no batches.
         return [_single(header, items[0])] * len(ids)
@@ -202,6 +229,11 @@ class Batch(Calls):
         :raises GrammarError: there are no calls
         """
         return self._sending()()
+
+
+def undone() -> Undone:
+    """What stands in the place of the answer to a call that the server has undone."""
+    return Undone('the server has undone this call of the batch')
 
 
 def not_done() -> NotDone:

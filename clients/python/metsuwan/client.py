@@ -3,36 +3,38 @@ from __future__ import annotations
 
 import contextlib
 import json
-import logging
 import os
 import ssl
-import threading
 import time
-from typing import (Any, Callable, Dict, Iterator, List, Mapping, Optional, Sequence, Tuple,
-                    Union)
+from typing import Any, Dict, Iterator, List, Mapping, Optional, Sequence, Tuple, Union
 
-from .batch import Answer, Batch, ids_of, message_of, not_done, responses_of
+from .batch import (Answer, Batch, ids_of, is_pending, is_undone, message_of, not_done,
+                    responses_of, undone)
 from .calls import Bytes, Option, Word, call_of, takes_id, words_of
-from .errors import (ConnectError, ConnectionLost, DeserializeError, GrammarError, MissingValue,
-                     KmipError, NotRecorded, OtherObject, RequestWriteError, ResponseReadError,
-                     SerializeError, error_of)
+from .carrier import LOG, Carrier
+from .errors import (ConnectionLost, GrammarError, KmipError, MissingValue, NotRecorded,
+                     OtherObject, RequestWriteError, SerializeError, error_of)
 from .items import Item
 from .keys import Text, block_of, key_of_pem, registration
-from .library import (ANSWERED, CALL_GRAMMAR, GRAMMAR, LOST, NO_FORM, NO_MEMORY, TOO_LONG, Call,
+from .known import check_context
+from .library import (ANSWERED, CALL_GRAMMAR, GRAMMAR, LOST, NO_FORM, NO_MEMORY, REFUSED, Call,
                       Credential, Library, Operation)
 from .objects import KeyPair, ManagedObject, Signed, bytes_at, text_at, value_at
 from .operations import Names, Operations, attributes_of
 from .pem import certificate_der
 from .records import Record, record_of
-from .wire import Passphrase, Port, Wire, context_of, is_host, is_port
+from .servers import Servers, servers_of
+from .wire import Passphrase, Port, context_of, is_host
 
-HEAD = 8
-LOG = logging.getLogger('metsuwan')
+# The most seconds of the opening, and of each call, where no other is given.
+TIMEOUT = 30.0
 # The calls that change nothing on the server: they may be made twice.
 CHANGELESS = frozenset(
     b'query discover locate get attributes sign encrypt decrypt mac mac-verify verify hash check '
-    b'attribute-list validate Query DiscoverVersions Locate Get GetAttributes GetAttributeList '
-    b'Sign SignatureVerify Encrypt Decrypt MAC MACVerify Hash Check Validate'.split())
+    b'attribute-list validate rng Query DiscoverVersions Locate Get GetAttributes GetAttributeList '
+    b'Sign SignatureVerify Encrypt Decrypt MAC MACVerify Hash Check Validate RNGRetrieve'.split())
+# Those about a call that is pending, which are for the server that has said so.
+OF_PENDING = frozenset((b'poll', b'cancel', b'Poll', b'Cancel'))
 Payload = Union[str, Mapping[str, Any], Sequence[Mapping[str, Any]]]
 
 
@@ -41,13 +43,31 @@ def _credential(user: Optional[str], password: Optional[str]) -> Credential:
         return None
     if user is None or password is None:
         raise ValueError('a credential is a user and a password')
+    for what, text in (('user', user), ('password', password)):
+        if not isinstance(text, str):
+            raise TypeError('a %s is a text, and %s was given' % (what, type(text).__name__))
     try:
         return user.encode(), password.encode()
     except UnicodeEncodeError:
         raise ValueError('the user or the password is not UTF-8') from None
 
 
-def _check_timeout(timeout: Optional[float]) -> None:
+def check_age(max_age: Optional[float]) -> None:
+    """An age is one.
+
+    :raises ValueError: it is none
+    """
+    is_number = isinstance(max_age, (int, float)) and not isinstance(max_age, bool)
+    if max_age is not None and not (is_number and max_age > 0):
+        raise ValueError('a max_age is a number of seconds, or None')
+
+
+def check_timeout(timeout: Optional[float]) -> None:
+    """A timeout is one.
+
+    :raises TypeError: it is no number
+    :raises ValueError: it is negative, or past 1e9
+    """
     if timeout is None:
         return
     if isinstance(timeout, bool) or not isinstance(timeout, (int, float)):
@@ -64,18 +84,29 @@ def _files(*files: Optional[str]) -> Tuple[str, str, str]:
     return cert, key, ca
 
 
-class Client(Operations):
+class Client(Carrier, Operations):
     """One connection to a KMIP server, as a context manager. Threads may share it: one call at a
-    time is made on it.
+    time is made on it. It is of the process that made it: in a child of a fork its calls are
+    refused, nothing is sent, and leaving its ``with`` block ends nothing of the parent's.
 
     :param host: the name or address that the server's certificate has to have
     :param port: a number, or the name of a service
+    :param server: in the place of these two one or several servers, of which another is asked where
+        one fails, as ``'a.example:5696,b.example,[::1]:5697'``, or a list of such texts; their port
+        is 5696 where none stands. A call that makes or changes something, and of which a byte went
+        out, is sent to no other. All of them have one set of objects (README.md)
+    :param order: ``first``, where not given: the first that is not left out since it failed; or
+        ``turns``: each connection goes to the next
+    :param server_name: what each certificate has to have in the place of its host
+    :param max_age: the most seconds of a connection that is opened again; then the order of the
+        servers begins in front
     :param cert: PEM file of the client's certificate, and after it those of authorities between
     :param key: PEM file of its private key
     :param ca: PEM file of the authority of the server's certificate; no other is trusted
     :param passphrase: that of a private key that is encrypted; no terminal is asked
     :param context: in the place of these four a context of ``ssl``, as for a key in hardware or
-        for lists of revoked certificates; whom it trusts, and whether by name, is the caller's
+        for lists of revoked certificates. It has to verify the server's certificate
+        (``CERT_REQUIRED``) and name (``check_hostname``), and to have no ``post_handshake_auth``
     :param user: with ``password`` a credential in each request
     :param limit: the most bytes of a response, its head counted; 0: no limit
     :param timeout: the most seconds of the opening, and of each call, whatever the server does;
@@ -96,51 +127,37 @@ class Client(Operations):
     :raises TypeError: a setting is of another type, or missing
     """
 
-    def __init__(self, host: str, port: Port = 5696, *, cert: Optional[str] = None,
-                 key: Optional[str] = None, ca: Optional[str] = None,
+    def __init__(self, host: Optional[str] = None, port: Optional[Port] = None, *,
+                 server: Union[str, Sequence[str], Servers, None] = None, order: str = 'first',
+                 server_name: Optional[str] = None, max_age: Optional[float] = None,
+                 cert: Optional[str] = None, key: Optional[str] = None, ca: Optional[str] = None,
                  passphrase: Passphrase = None, context: Optional[ssl.SSLContext] = None,
                  user: Optional[str] = None, password: Optional[str] = None,
-                 limit: int = 1 << 20, timeout: Optional[float] = 30.0, reconnect: bool = False,
+                 limit: int = 1 << 20, timeout: Optional[float] = TIMEOUT, reconnect: bool = False,
                  record: Record = None, library: Optional[str] = None) -> None:
         if isinstance(limit, bool) or not isinstance(limit, int):
             raise TypeError('a limit is an int, and %s was given' % type(limit).__name__)
         if not 0 <= limit < 1 << 32:
             raise ValueError('a limit is 0 to 4294967295')
-        _check_timeout(timeout)
-        if not isinstance(host, str):
-            raise TypeError('a host is a text, and %s was given' % type(host).__name__)
-        if not is_host(host):
-            raise ValueError('a host is a name or an address')
-        if not is_port(port):
-            raise ValueError('a port is a number of 1 to 65535, or the name of a service')
+        check_timeout(timeout)
+        check_age(max_age)
+        servers = servers_of(host, port, server, order)
+        if server_name is not None and not is_host(server_name):
+            raise ValueError('server_name is no name, and no address')
         self._credential = _credential(user, password)
         self._library = Library(library)
         self._limit, self._record = limit, record
-        # Only one thread at a time is within a call, and it only once.
-        self._lock, self._is_busy = threading.RLock(), False
-        self._server = '%s:%s' % (host, port)
-        self._wire: Optional[Wire] = None
-        self._sent = 0
         if context is None:
             context = context_of(*_files(cert, key, ca), passphrase)
         elif (cert, key, ca, passphrase) != (None,) * 4:
             raise TypeError('a context stands in the place of cert, key, ca and passphrase')
-        # What opens a connection; None once the client is closed by its owner.
-        trusted, seconds = context, timeout or None
-        self._open: Optional[Callable[[], Wire]] = lambda: Wire(host, port, trusted, seconds)
-        self._reconnects = reconnect
-        self._wire = self._opened()
-
-    def _opened(self) -> Wire:
-        if self._open is None:
-            raise RequestWriteError('the connection is closed; nothing was sent')
-        try:
-            return self._open()
-        except OSError as error:
-            raise ConnectError(str(error)) from error
+        else:
+            check_context(context)
+        super().__init__(servers, server_name, context, timeout or None, reconnect, max_age)
 
     def __repr__(self) -> str:
-        return '<Client of %s, %s>' % (self._server, 'open' if self._wire else 'closed')
+        is_there = self._wire is not None and self._is_own()
+        return '<Client of %s, %s>' % (self._server, 'open' if is_there else 'closed')
 
     def __enter__(self) -> 'Client':
         return self
@@ -155,28 +172,13 @@ class Client(Operations):
         :raises RuntimeError: this thread is within a call, and this is a handler of a signal. An
             exception that the handler raises ends the call, and closes the client.
         """
+        if not self._is_own():
+            self._is_ended = True
+            self._end(False)
+            return
         with self._alone():
-            self._open = None
+            self._is_ended = True
             self._end(True)
-
-    @property
-    def is_open(self) -> bool:
-        """Whether calls can be made: no call has lost the connection, or it may be opened again."""
-        return self._wire is not None or (self._reconnects and self._open is not None)
-
-    @contextlib.contextmanager
-    def _alone(self) -> Iterator[None]:
-        """Within it no other thread makes a call. A handler of a signal that comes within it would
-        wait for itself."""
-        with self._lock:
-            if self._is_busy:
-                raise RuntimeError('a handler of a signal used a client within a call of it; '
-                                   'an exception that it raises ends the call')
-            try:
-                self._is_busy = True
-                yield
-            finally:
-                self._is_busy = False
 
     def call(self, name: str, /, *words: Word, **options: Option) -> Dict[str, Any]:
         """Makes a call, and returns its answer as JSON has it.
@@ -306,7 +308,9 @@ class Client(Operations):
         with self._alone(), self._logged('a batch of %d' % len(calls)) as log:
             try:
                 ids = ids_of(self._item_id(), len(calls))
-                response = self._response(self._ready(), message_of(made, ids, on_error))
+                is_changeless = all(call.name in CHANGELESS for call in calls)
+                message = message_of(made, ids, on_error)
+                response = self._response_again(message, is_changeless)
                 unwritten = self._keep(calls, response, (ids, on_error))
                 responses = responses_of(response, ids, on_error)
             except BaseException:
@@ -323,19 +327,13 @@ class Client(Operations):
     def _answer_of(self, call: Call, response: bytes) -> Answer:
         if not response:
             return not_done()
+        status, line = self._library.answer(call, response)
+        if status == REFUSED and is_undone(response):
+            return undone()
         try:
-            return self._read(call, *self._library.answer(call, response))
+            return self._read(call, status, line)
         except KmipError as error:
             return error
-
-    def _ready(self) -> Wire:
-        """The connection, which is opened again where it was lost and that is wanted."""
-        if self._wire is None:
-            if not self._reconnects:
-                raise RequestWriteError('the connection is closed; nothing was sent')
-            self._wire = self._opened()
-            LOG.warning('%s: the connection was lost, and is opened again', self._server)
-        return self._wire
 
     @contextlib.contextmanager
     def _logged(self, what: str) -> Iterator[List[str]]:
@@ -530,11 +528,6 @@ class Client(Operations):
             self._end(False)
         raise OtherObject('the response is about another object')
 
-    def _end(self, in_order: bool) -> None:
-        wire, self._wire = self._wire, None
-        if wire is not None:
-            wire.close(in_order)
-
     def _exchange(self, call: Call) -> Tuple[int, str, bytes]:
         """The status of a call, its line of JSON, and the response. Whatever goes wrong, a
         connection of which it is not known what comes next is closed."""
@@ -552,7 +545,8 @@ class Client(Operations):
             return NO_MEMORY, '', b''
         with self._logged(call.name.decode()) as log:
             try:
-                response = self._response_again(request, call.name in CHANGELESS)
+                only = self._pending_at if call.name in OF_PENDING else None
+                response = self._response_again(request, call.name in CHANGELESS, only)
                 status, line = self._library.answer(call, response)
             except BaseException:
                 self._end(False)
@@ -560,49 +554,6 @@ class Client(Operations):
             log += ['status %d' % status, '%d bytes sent, %d read' % (len(request), len(response))]
         if status in (LOST, NO_MEMORY):
             self._end(False)
+        if status == REFUSED and is_pending(response):
+            self._pending_at = self._at
         return status, line, response
-
-    def _response_again(self, request: bytes, is_changeless: bool) -> bytes:
-        """The response to a request, which where that is wanted, and harmless, is sent once more on
-        a new connection."""
-        was_open = self._wire is not None
-        try:
-            return self._response(self._ready(), request)
-        except (RequestWriteError, ResponseReadError) as error:
-            # Where the connection is new, or what was sent may have been done, that is all.
-            nothing_sent = isinstance(error, RequestWriteError) and self._sent == 0
-            if not self._reconnects or not was_open or not (nothing_sent or is_changeless):
-                raise
-            if isinstance(error.__cause__, TimeoutError):
-                raise
-            self._end(False)
-            LOG.warning('%s: %s: the call is made again', self._server, error)
-            return self._response(self._ready(), request)
-
-    def _response(self, wire: Wire, request: bytes) -> bytes:
-        """The three steps that nothing checks: these bytes are sent, 8 are read, and then so
-        many."""
-        wire.begin()
-        self._sent = 0
-        try:
-            wire.check_idle()
-        except OSError as error:
-            raise RequestWriteError('%s; nothing was sent' % error) from error
-        self._sent = len(request)
-        try:
-            wire.send(request)
-        except OSError as error:
-            raise RequestWriteError(str(error)) from error
-        try:
-            head = wire.read(HEAD)
-            more = self._library.contents_len(head, self._limit)
-            if more == TOO_LONG:
-                raise DeserializeError('the response is longer than the limit of %d bytes'
-                                       % self._limit)
-            if more < 0:
-                raise DeserializeError('not a structure')
-            return head + wire.read(more)
-        except ConnectionLost:
-            raise
-        except OSError as error:
-            raise ResponseReadError(str(error)) from error

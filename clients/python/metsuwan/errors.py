@@ -6,6 +6,13 @@ from typing import Any, Dict, Mapping, Optional, Tuple, Type
 LOST = 3
 
 
+def shown(text: str) -> str:
+    """A text with what a terminal would act on, or not show, as Python writes it: controls, and
+    signs that turn the direction of what follows."""
+    return ''.join(sign if sign.isprintable() else sign.encode('unicode_escape').decode('ascii')
+                   for sign in text)
+
+
 class Reason(int):
     """A Result Reason of a server: its number, and KMIP's name of it, as ``PermissionDenied``, or
     None where KMIP 1.2 has none.
@@ -49,9 +56,13 @@ class KmipError(Exception):
     failure, ``reason`` is its Result Reason, a number with a ``name``, and ``message`` its Result
     Message. Where a response came that is no answer, ``response`` is its skeleton, the tags, types
     and numbers of enumerations that it has. Otherwise they are None.
+
+    ``was_sent`` is whether the server may have read a part of the request. Where it is False, the
+    call may be made again.
     """
 
     kind = 'Unknown'
+    was_sent = False
 
     def __init__(self, text: str) -> None:
         super().__init__(text)
@@ -59,6 +70,11 @@ class KmipError(Exception):
         self.reason: Optional[Reason] = None
         self.message: Optional[str] = None
         self.response: Optional[str] = None
+
+    def __str__(self) -> str:
+        """The text, which may be a server's, as a terminal can be shown it; ``text`` has it as it
+        is."""
+        return shown(self.text)
 
     def line(self) -> Dict[str, Any]:
         """The error as a line of JSON has it: ``error``, ``text`` and what else is known."""
@@ -80,6 +96,7 @@ class NotRecorded(KmipError):
     have raised; of a batch, all its answers."""
 
     kind = 'NotRecorded'
+    was_sent = True
 
     def __init__(self, text: str, answer: Any = None) -> None:
         super().__init__(text)
@@ -96,16 +113,20 @@ class MissingValue(KmipError, LookupError):
     """The call was answered, and its answer has not the value that was asked for."""
 
     kind = 'MissingValue'
+    was_sent = True
 
 
 class Refused(KmipError):
     """An error after which the connection is good for the next call."""
+
+    was_sent = True
 
 
 class SerializeError(Refused):
     """The request has no wire form. Nothing was sent."""
 
     kind = 'SerializeError'
+    was_sent = False
 
 
 class ServerError(Refused):
@@ -132,21 +153,35 @@ class NotDone(Refused):
     kind = 'NotDone'
 
 
+class Undone(Refused):
+    """The server has undone this call of a batch, since another one failed."""
+
+    kind = 'Undone'
+
+
 class ConnectionLost(KmipError, ConnectionError):
     """An error after which the connection is closed, and the client with it. Whether the server
     did what was asked is not known, but where nothing was sent."""
 
+    was_sent = True
+
 
 class ConnectError(ConnectionLost):
-    """There is no connection. Nothing was sent."""
+    """There is no connection, or the server refused the client's certificate. The server has read
+    nothing of the request."""
 
     kind = 'ConnectError'
+    was_sent = False
 
 
 class RequestWriteError(ConnectionLost):
     """The connection failed before the whole request was sent."""
 
     kind = 'RequestWriteError'
+
+    def __init__(self, text: str, was_sent: bool = False) -> None:
+        super().__init__(text)
+        self.was_sent = was_sent
 
 
 class ResponseReadError(ConnectionLost):

@@ -120,7 +120,10 @@ def key_of_pem(text: Text, object_type: str) -> Key:
         raise TypeError('a key is a text of PEM, and %s was given' % type(text).__name__)
     blocks = _blocks(text.encode(errors='replace') if isinstance(text, str) else bytes(text))
     if not blocks:
-        raise GrammarError(what + 'is no PEM')
+        why = 'is no PEM'
+        if isinstance(text, str) and text.strip() and '\n' not in text.strip():
+            why += ': the text itself is wanted, and not the name of its file'
+        raise GrammarError(what + why)
     if len(blocks) > 1:
         raise GrammarError(what + 'is several blocks of PEM, and one at a time is registered')
     label, body = blocks[0]

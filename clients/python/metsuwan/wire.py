@@ -9,9 +9,12 @@ import socket
 import ssl
 import threading
 import time
-from typing import Any, Callable, Iterator, List, Optional, TypeVar, Union
+from typing import Any, Callable, Iterator, List, Optional, Tuple, TypeVar, Union
 
 from .errors import ConnectError
+from .known import check_server, refusal_of
+from .processes import keep, this_process
+from .stop import STOP, Cancelled, Stop
 
 Passphrase = Union[str, bytes, None]
 Port = Union[int, str]
@@ -20,6 +23,10 @@ Done = TypeVar('Done')
 PARTIAL_CHAIN = ssl.VerifyFlags(0x80000)
 # The line that a certificate begins with in PEM.
 CERTIFICATE = rb'^-----BEGIN .*CERTIFICATE-----\s*\n'
+# How often a search for addresses looks whether the call goes on, in seconds.
+LOOKS = 0.05
+# No part of the time.
+NO_PART: Tuple[Optional[float], Optional[float]] = (None, None)
 # The most bytes that TLS is given before the clock is looked at: a record has as many.
 PIECE = 1 << 14
 
@@ -116,50 +123,99 @@ class Wire:
     """A connection to a server. TLS is given what comes in pieces, between which the clock is
     looked at and handlers of signals run: so it ends in time, whatever a server sends within TLS.
 
-    :param timeout: seconds for the opening, and from each ``begin`` on; None: no deadline
+    :param name: what the certificate has to have; None: the host
+    :param end: when it has to be open, by the monotonic clock, and
+    :param seconds: how many seconds that are, for what is said; None: no deadline
     :raises OSError: there is no connection
     """
 
-    def __init__(self, host: str, port: Port, context: ssl.SSLContext,
-                 timeout: Optional[float]) -> None:
-        self._timeout = timeout
+    def __init__(self, host: str, port: Port, context: ssl.SSLContext, name: Optional[str],
+                 end: Optional[float], seconds: Optional[float]) -> None:
+        self._process = this_process()
+        #: When it was opened, by the monotonic clock.
+        self.since = time.monotonic()
+        self._stop: Optional[Stop]
+        self._goes_on: Callable[[], bool]
         self._came, self._goes = ssl.MemoryBIO(), ssl.MemoryBIO()
-        self.begin()
+        # Whether a byte of an answer was read: then the server has taken the certificate.
+        self._has_read = False
+        self._begin(end, seconds)
         if host.startswith('[') and host.endswith(']'):
             host = host[1:-1]
         with self._in_time():
             self._plain = self._reach(host, port)
             try:
                 self._plain.setsockopt(socket.IPPROTO_TCP, socket.TCP_NODELAY, 1)
-                self._tls = context.wrap_bio(self._came, self._goes, server_hostname=_name_of(host))
+                self._tls = context.wrap_bio(self._came, self._goes,
+                                             server_hostname=_name_of(name or host))
                 self._in_steps(self._tls.do_handshake)
+                check_server(self._tls)
             except BaseException:
                 self._send_rest()
                 self._plain.close()
                 raise
 
-    def begin(self) -> None:
+    def is_older(self, max_age: Optional[float]) -> bool:
+        """Whether more seconds than this have passed since it was opened."""
+        return max_age is not None and time.monotonic() - self.since > max_age
+
+    def begin(self, end: Optional[float], seconds: Optional[float]) -> None:
         """From here on the connection has the time of one call."""
-        self._end = None if self._timeout is None else time.monotonic() + self._timeout
+        self._begin(end, seconds)
+        if self._stop is not None:
+            self._stop.holds(self._plain)
+
+    def share(self, end: Optional[float], seconds: Optional[float],
+              goes_on: Callable[[], bool]) -> None:
+        """Until then an answer has to begin, where it is not said by then that it goes on."""
+        if end != self._end:
+            self._part, self._goes_on = (end, seconds), goes_on
+
+    def _begin(self, end: Optional[float], seconds: Optional[float]) -> None:
+        self._end, self._seconds = end, seconds
+        self._part, self._goes_on = NO_PART, bool
+        self._has_come = False      # a byte of the answer
+        #: Whether a byte has gone out since.
+        self.has_sent = False
+        self._stop = STOP.get()
 
     def _left(self, share: int = 1) -> Optional[float]:
         """The seconds that are left, or a share of them."""
+        if self._stop is not None:
+            self._stop.check()
+        now = time.monotonic()
+        end, seconds = self._part
+        if end is not None:
+            if now < end:
+                return end - now
+            if not self._has_come and not self._goes_on():
+                self._end, self._seconds = end, seconds
+            self._part = NO_PART
         if self._end is None:
             return None
-        left = self._end - time.monotonic()
+        left = self._end - now
         if left <= 0:
             raise TimeoutError
         return left / share
 
     @contextlib.contextmanager
     def _in_time(self) -> Iterator[None]:
-        """Within it, the end of the time is an error that says so."""
+        """Within it, the end of the time is an error that says so, and so are the end of a call
+        that was cancelled, and a refusal of the certificate."""
         try:
             yield
-        except (TimeoutError, socket.timeout) as error:
-            if self._end is None or time.monotonic() < self._end:
-                raise
-            raise TimeoutError('no answer within %g seconds' % (self._timeout or 0)) from error
+        except OSError as error:
+            if self._stop is not None and self._stop.is_set:
+                raise Cancelled('the call was cancelled') from error
+            if isinstance(error, (TimeoutError, socket.timeout)) and self._is_late():
+                text = 'no answer within %.3g seconds' % (self._seconds or 0)
+                raise TimeoutError(text) from error
+            if isinstance(error, ssl.SSLError) and not self._has_read:
+                raise refusal_of(error) or error
+            raise
+
+    def _is_late(self) -> bool:
+        return self._end is not None and time.monotonic() >= self._end
 
     def _addresses(self, host: str, port: Port) -> List[Any]:
         """The addresses of a host. A search has no deadline, and so has a thread of its own."""
@@ -177,7 +233,10 @@ class Wire:
             found.clear()
             thread = threading.Thread(target=search, args=(0,), daemon=True)
             thread.start()
-            thread.join(self._left())
+            while thread.is_alive():
+                left = self._left()
+                wait = LOOKS if self._stop is not None else None
+                thread.join(min((time for time in (left, wait) if time is not None), default=None))
         if not found:
             raise TimeoutError
         if isinstance(found[0], OSError):
@@ -201,6 +260,9 @@ class Wire:
         addresses = self._addresses(host, port)
         for at, (family, kind, protocol, _, address) in enumerate(addresses, 1):
             plain = self._socket(family, kind, protocol)
+            keep(plain)
+            if self._stop is not None:
+                self._stop.holds(plain)
             try:
                 plain.settimeout(self._left(len(addresses) - at + 1))
                 plain.connect(address)
@@ -217,6 +279,7 @@ class Wire:
         while rest:
             self._plain.settimeout(self._left())
             rest = rest[self._plain.send(rest):]
+            self.has_sent = True
 
     def _send_rest(self) -> None:
         """Sends what the system takes at once of what TLS has written, as why it gave up."""
@@ -233,6 +296,14 @@ class Wire:
         else:
             self._came.write_eof()
 
+    def _wait(self) -> None:
+        """Gives TLS what comes next, in time."""
+        while True:
+            try:
+                return self._take(self._left())
+            except (TimeoutError, socket.timeout):
+                self._left()    # (its share may be over, and the time not)
+
     def _in_steps(self, step: Callable[[], Done]) -> Done:
         """Has TLS do this, which wants bytes from the server until it is done."""
         while True:
@@ -240,7 +311,7 @@ class Wire:
                 done = step()
             except ssl.SSLWantReadError:
                 self._flush()
-                self._take(self._left())
+                self._wait()
             except ssl.SSLEOFError:
                 raise OSError('end of input') from None
             else:
@@ -280,8 +351,26 @@ class Wire:
         """Sends all of these bytes."""
         rest = memoryview(request)
         with self._in_time():
-            while rest:
-                rest = rest[self._in_steps(lambda: self._tls.write(rest)):]
+            try:
+                while rest:
+                    rest = rest[self._in_steps(lambda: self._tls.write(rest)):]
+            except (BrokenPipeError, ConnectionError):
+                self._look_for_alert()
+                raise
+
+    def _look_for_alert(self) -> None:
+        """What could not be written may have been refused, with an alert that is not read yet.
+
+        :raises ssl.SSLError: so it is
+        """
+        try:
+            self._take(0)
+            self._tls.read(1)
+        except ssl.SSLError as error:
+            if refusal_of(error):
+                raise
+        except OSError:
+            pass    # there is none
 
     def read(self, count: int) -> bytes:
         """So many bytes."""
@@ -289,11 +378,13 @@ class Wire:
         with self._in_time():
             while len(got) < count:
                 got += self._in_steps(lambda: self._read(min(count - len(got), 65536)))
+                self._has_read = self._has_come = True
         return bytes(got)
 
     def close(self, in_order: bool) -> None:
-        """Ends the connection. In order, it says so to the server, and waits for nothing."""
-        if in_order:
+        """Ends the connection. In order, it says so to the server, and waits for nothing. In the
+        child of a fork the connection goes on, and is the parent's."""
+        if in_order and self._process == this_process():
             with contextlib.suppress(OSError, ValueError):
                 self._tls.unwrap()
             self._send_rest()

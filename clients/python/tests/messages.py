@@ -58,9 +58,9 @@ def request(minor: int, operation: int, *payload: bytes, item_id: bytes = b'') -
 
 
 def response(operation: int, *payload: bytes, item_id: bytes = b'', status: int = 0) -> bytes:
-    """The response to such a request, of which this came."""
+    """The response to such a request; after a failure with what follows its status."""
     body = [enumeration(0x42005C, operation), _id(item_id), enumeration(0x42007F, status)]
-    body += [structure(0x42007C, *payload)] if status == 0 else []
+    body += [structure(0x42007C, *payload)] if status == 0 else payload
     header = structure(0x42007A, _version(2), item(0x420092, DATE, struct.pack('>q', 1700000000)),
                        integer(0x42000D, 1))
     return structure(0x42007B, header, structure(0x42000F, *body))

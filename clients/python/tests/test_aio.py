@@ -3,8 +3,13 @@ import asyncio
 import contextlib
 import contextvars
 import inspect
+import os
+import signal
+import subprocess
+import sys
 import textwrap
 import threading
+import time
 import unittest
 from typing import Any, Awaitable, Callable, Dict, Iterator, List
 from unittest import mock
@@ -20,6 +25,17 @@ LONG = 60
 SETTINGS: Dict[str, Any] = {
     'cert': CERTS + '/client.pem', 'key': CERTS + '/client.key', 'ca': CERTS + '/ca.pem',
     'timeout': 60}
+# A program that waits for the answer of a server that keeps silent.
+CTRL_C = '''import asyncio, sys, metsuwan
+certs = sys.argv[2]
+async def main():
+    async with metsuwan.AsyncClient('localhost', int(sys.argv[1]), cert=certs + '/client.pem',
+                                    key=certs + '/client.key', ca=certs + '/ca.pem',
+                                    timeout=600) as kmip:
+        print('open', flush=True)
+        await kmip.query()
+asyncio.run(main())
+'''
 
 
 def async_client(fake: str, **settings: Any) -> AsyncClient:
@@ -226,7 +242,7 @@ class Clients(WithLoop):
             self.assertEqual(len(gate.came), 2)
 
     async def test_after_a_call_that_is_cancelled_the_next_gets_its_own_answer(self) -> None:
-        async with async_client('good') as kmip:
+        async with async_client('good', reconnect=True) as kmip:
             with held('_response') as gate:
                 first = asyncio.ensure_future(kmip.sign('first', b'x'))
                 await gate.has(1)
@@ -236,6 +252,52 @@ class Clients(WithLoop):
                 self.assertEqual(len(gate.came), 1)
                 gate.is_open.set()
                 self.assertEqual((await in_time(second)).unique_identifier, 'second')
+
+    async def test_a_call_that_is_cancelled_ends_at_once(self) -> None:
+        for fake in ('silent', 'half_hold', 'drip'):
+            kmip = await async_client(fake, timeout=3 * LONG).open()
+            call = asyncio.ensure_future(kmip.activate('k'))
+            await asyncio.sleep(0.3)
+            with self.subTest(fake):
+                begun = time.monotonic()
+                await cancelled(call)
+                with self.assertRaisesRegex(RequestWriteError, 'closed; nothing was sent'):
+                    await kmip.query()
+                await kmip.close()
+                self.assertLess(time.monotonic() - begun, LONG / 2)
+
+    async def test_and_so_does_an_opening(self) -> None:
+        for fake in ('unanswered', 'unaccepting'):
+            kmip = async_client(fake, timeout=3 * LONG)
+            opening = asyncio.ensure_future(kmip.open())
+            await asyncio.sleep(0.3)
+            with self.subTest(fake):
+                begun = time.monotonic()
+                await cancelled(opening)
+                await kmip.close()
+                self.assertLess(time.monotonic() - begun, LONG / 2)
+
+    async def test_a_call_that_is_cancelled_is_not_made_again(self) -> None:
+        async with async_client('silent', timeout=3 * LONG, reconnect=True) as kmip:
+            call = asyncio.ensure_future(kmip.query())
+            await asyncio.sleep(0.3)
+            with self.assertLogs('metsuwan', 'DEBUG') as log:
+                await cancelled(call)
+                await until(lambda: kmip._calls == [], 'it has ended')
+            self.assertNotIn('again', str(log.output))
+
+    def test_ctrl_c_ends_the_program(self) -> None:
+        words = [sys.executable, '-c', CTRL_C, str(PORTS['silent']), CERTS]
+        program = subprocess.Popen(words, stdout=subprocess.PIPE, stderr=subprocess.DEVNULL,
+                                   env={**os.environ, 'PYTHONPATH': os.pathsep.join(sys.path)})
+        with program:
+            assert program.stdout is not None
+            self.assertEqual(program.stdout.readline(), b'open\n')
+            time.sleep(0.3)
+            begun = time.monotonic()
+            program.send_signal(signal.SIGINT)
+            program.wait(LONG)
+            self.assertLess(time.monotonic() - begun, LONG / 2)
 
     async def test_no_answer_is_kept(self) -> None:
         async with async_client('good') as kmip:
@@ -259,22 +321,19 @@ class Clients(WithLoop):
             closing = asyncio.ensure_future(kmip.close())
             await stays(closing)
             await cancelled(closing)
-            self.assertTrue(client.is_open)
             gate.is_open.set()
             await in_time(kmip.close())
         self.assertFalse(client.is_open)
 
     async def test_an_opening_that_is_cancelled_leaves_no_connection(self) -> None:
         kmip = async_client('good')
-        with held('_opened') as gate, mock.patch.object(Client, 'close', autospec=True,
-                                                        side_effect=Client.close) as close:
+        with held('_opened') as gate:
             opening = asyncio.ensure_future(kmip.open())
             await gate.has(1)
             await cancelled(opening)
             gate.is_open.set()
-            await until(lambda: close.called, 'the client is closed')
-        await in_time(kmip.close())
-        self.assertFalse(kmip._ready().is_open)
+            await in_time(kmip.close())
+        self.assertFalse(kmip.is_open)
 
     async def test_an_opening_that_fails_leaves_no_thread(self) -> None:
         kmip = async_client('wrong_host')
@@ -363,6 +422,34 @@ class Pools(WithLoop):
         self.assertEqual(len(seen), 1)
         self.assertFalse(kmip.is_open)
 
+    async def test_one_that_the_server_has_ended_is_not_given_out(self) -> None:
+        for fake in ('end_after', 'two'):
+            async with async_pool(fake, size=1) as pool:
+                for _ in range(3):
+                    async with pool.client() as kmip:
+                        await kmip.query()
+
+    async def test_a_place_is_waited_for_in_time(self) -> None:
+        async with async_pool('good', size=1, timeout=2) as pool, pool.client() as kmip:
+            wanted = '^no connection of the pool is free within 2 seconds$'
+            with self.assertRaisesRegex(ConnectError, wanted):
+                async with pool.client():
+                    pass
+            await kmip.query()
+            waits = asyncio.ensure_future(pool.client().__aenter__())
+            await asyncio.sleep(0.1)
+            await cancelled(waits)
+        self.assertFalse(kmip.is_open)
+
+    async def test_a_connection_has_an_age(self) -> None:
+        async with async_pool('good', size=1, max_age=0.2) as pool:
+            async with pool.client() as first:
+                await first.query()
+            await asyncio.sleep(0.3)
+            async with pool.client() as second:
+                await second.query()
+        self.assertIsNot(first, second)
+
     async def test_turns_come_in_the_order_of_asking(self) -> None:
         turns: List[str] = []
         async with async_pool('good', size=1) as pool:
@@ -394,7 +481,8 @@ class Pools(WithLoop):
                 gate.is_open.set()
                 self.assertEqual(await in_time(second), 'second')
             self.assertEqual(await in_time(sign('third')), 'third')
-        self.assertEqual(len(set(seen)), 1)
+        # The first has lost its connection.
+        self.assertEqual([seen[1] is seen[2], len(set(seen))], [True, 2])
 
     async def test_an_opening_that_is_cancelled_counts_until_it_has_ended(self) -> None:
         async def query() -> None:

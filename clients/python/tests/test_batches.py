@@ -1,13 +1,14 @@
 """Several calls in one message."""
 import re
 import unittest
-from typing import Callable, List
+from typing import Callable, Dict, List
 from unittest import mock
 
-from metsuwan import (ConnectionLost, GrammarError, Item, ItemNotFound, NotDone, OtherObject,
-                      ServerError)
+from metsuwan import (Client, ConnectionLost, GrammarError, Item, ItemNotFound, NotDone,
+                      OtherObject, ServerError, Undone)
+from metsuwan.wire import Wire
 
-from .servers import client_of
+from .servers import client_of, new_user
 
 
 class Batches(unittest.TestCase):
@@ -38,6 +39,63 @@ class Batches(unittest.TestCase):
                 self.assertIsInstance(second, ItemNotFound)
                 self.assertIsInstance(third, last)
             self.assertEqual(kmip.call('activate', 'k'), {})
+
+    def test_what_the_server_has_undone(self) -> None:
+        with client_of('batches') as kmip:
+            batch = kmip.batch(on_error='Undo').call('activate', 'undone')
+            undone, failed = batch.call('activate', 'failing').send()
+            assert isinstance(undone, Undone) and isinstance(failed, ItemNotFound)
+            self.assertEqual(undone.kind, 'Undone')
+            self.assertEqual(undone.line()['text'], 'the server has undone this call of the batch')
+
+    def test_a_message_that_is_no_response_loses_the_connection(self) -> None:
+        count = b'\x42\0\x0d\x02\0\0\0\x04\0\0\0'
+
+        def twice(response: bytes) -> bytes:
+            header = response[8:16 + int.from_bytes(response[12:16], 'big')]
+            length = int.from_bytes(response[4:8], 'big') + len(header)
+            return response[:4] + length.to_bytes(4, 'big') + header + response[8:]
+
+        changes: Dict[str, Callable[[bytes], bytes]] = {
+            'Batch Count': lambda it: it.replace(count + b'\2', count + b'\7'),
+            'a request': lambda it: b'\x42\0\x78' + it[3:],
+            'a header': lambda it: it.replace(b'\x42\0\x7a\x01', b'\x42\0\x77\x01'),
+            'two headers': twice,
+            'a Byte String': lambda it: it.replace(b'\x42\0\x0f\x01', b'\x42\0\x0f\x08'),
+        }
+        real = Client._response
+        for name, change in changes.items():
+            def respond(kmip: Client, wire: Wire, request: bytes) -> bytes:
+                response = real(kmip, wire, request)
+                self.assertNotEqual(change(response), response)
+                return change(response)
+
+            with self.subTest(name), mock.patch.object(Client, '_response', respond):
+                kmip = client_of('batches')
+                with self.assertRaises(OtherObject):
+                    kmip.batch().call('activate', 'a').call('activate', 'b').send()
+                self.assertFalse(kmip.is_open)
+
+    def test_after_an_idle_end_it_is_sent_again(self) -> None:
+        # Nothing of it was sent, so it may change something. (This fake answers no batch.)
+        with client_of('end_after', reconnect=True) as kmip:
+            kmip.query()
+            with self.assertLogs('metsuwan', 'WARNING') as log, self.assertRaises(OtherObject):
+                kmip.batch().call('activate', 'k').send()
+            self.assertIn('nothing was sent: the call is made again', log.output[0])
+
+    def test_where_it_was_sent_it_is_made_again_if_it_changes_nothing(self) -> None:
+        for names, is_again in ((('query', 'query'), True), (('query', 'activate'), False)):
+            user = new_user()
+            with client_of('first_lost', user=user, password='', reconnect=True) as kmip:
+                batch = kmip.batch()
+                for name in names:
+                    batch.call(name, *(['k'] if name == 'activate' else []))
+                with self.subTest(names), self.assertRaises(ConnectionLost) as raised:
+                    batch.send()    # (its second answer is that of one call)
+                self.assertEqual(isinstance(raised.exception, OtherObject), is_again)
+                came = kmip.query()['vendor_identification']
+                self.assertEqual(came, '3' if is_again else '2')
 
     def test_a_message_that_is_refused_is_the_error_of_each(self) -> None:
         with client_of('no_batches') as kmip:

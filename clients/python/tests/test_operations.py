@@ -49,9 +49,10 @@ class Operations(unittest.TestCase):
                 ('Encrypt', '1.3', payload(), 'version is none of'),
                 ('Encrypt', '1.2', payload({'tag': 'Dat'}),
                  r'the payload: line 1, column \d+, value\[0\]\.tag: expected the name of a tag, '
-                 'or 0x and six hex digits, found "Dat"$'),
-                ('Get', '1.2', [Item('UniqueIdentifier', '')], 'Identifier in it is empty'),
-                ('Get', '1.2', [Item('0x420094', '')], 'Identifier in it is empty')]
+                 'or 0x and six hex digits, found another string$'),
+                ('Get', '1.2', [Item('UniqueIdentifier', '')],
+                 'an identifier or an .* in it is empty$'),
+                ('Get', '1.2', [Item('0x420094', '')], 'an identifier or an .* in it is empty$')]
             for name, version, given, wrong in reasons:
                 with self.assertRaisesRegex(GrammarError, wrong):
                     kmip.operation(name, given, version=version)

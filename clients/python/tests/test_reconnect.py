@@ -1,10 +1,12 @@
 """Connections that are opened again, the pool, and what the logger is told."""
 import logging
 import threading
+import time
 import unittest
 from typing import Any, Dict, List
 
-from metsuwan import Client, ConnectionLost, Item, Pool, ResponseReadError
+from metsuwan import (AsyncPool, Client, ConnectError, ConnectionLost, Item, Pool,
+                      ResponseReadError)
 from metsuwan.errors import RequestWriteError
 
 from .servers import CERTS, PORTS, client_of, new_user
@@ -107,6 +109,45 @@ class Pools(unittest.TestCase):
                     seen.append(kmip)
                     kmip.query()
             self.assertIsNot(seen[0], seen[1])
+
+    def test_one_that_the_server_has_ended_is_not_given_out(self) -> None:
+        with Pool('localhost', PORTS['end_after'], size=1, **self.settings) as pool:
+            for _ in range(3):
+                with pool.client() as kmip:
+                    kmip.activate('k')
+        with Pool('localhost', PORTS['two'], size=1, **self.settings) as pool:
+            for _ in range(2):      # bytes that no call had asked for
+                with pool.client() as kmip:
+                    kmip.query()
+
+    def test_a_place_is_waited_for_in_time(self) -> None:
+        settings = {**self.settings, 'timeout': 2}
+        with Pool('localhost', PORTS['good'], size=1, **settings) as pool, pool.client() as kmip:
+            begun = time.monotonic()
+            wanted = '^no connection of the pool is free within 2 seconds$'
+            with self.assertRaisesRegex(ConnectError, wanted), pool.client():
+                pass
+            self.assertLess(time.monotonic() - begun, 60)
+            kmip.query()
+
+    def test_words_that_are_none(self) -> None:
+        for word in ('siz', 'hosts', 'timeouts'):
+            for pool in (Pool, AsyncPool):
+                with self.assertRaisesRegex(TypeError, word):
+                    pool('localhost', **self.settings, **{word: 3})
+        for age in (0, -1, True, 'x'):
+            with self.assertRaisesRegex(ValueError, 'max_age'):
+                Pool('localhost', max_age=age, **self.settings)  # type: ignore[arg-type]
+
+    def test_a_connection_has_an_age(self) -> None:
+        for age, is_other in ((0.2, True), (1000, False)):
+            with Pool('localhost', PORTS['good'], size=1, max_age=age, **self.settings) as pool:
+                with pool.client() as first:
+                    first.query()
+                time.sleep(0.3)
+                with pool.client() as second:
+                    second.query()
+                self.assertEqual(first is not second, is_other)
 
     def test_it_is_closed(self) -> None:
         pool = Pool('localhost', PORTS['good'], **self.settings)

@@ -1,9 +1,16 @@
 """Records of calls, against fake servers."""
 import errno
+import fcntl
+import os
 import re
+import subprocess
+import sys
+import tempfile
 import unittest
 from typing import Any, List
+from unittest import mock
 
+import metsuwan
 from metsuwan import GrammarError, Item, NotRecorded, ResponseReadError, ServerError
 from metsuwan.calls import words_of
 from metsuwan.library import ANSWERED, Library
@@ -101,6 +108,65 @@ class Records(unittest.TestCase):
                 kmip.activate('k')
             self.assertIsInstance(raised.exception.answer, ServerError)
             self.assertTrue(kmip.is_open)
+
+
+class Files(unittest.TestCase):
+    def setUp(self) -> None:
+        folder = tempfile.TemporaryDirectory()
+        self.addCleanup(folder.cleanup)
+        self.path = folder.name + '/record'
+
+    def lines(self) -> List[str]:
+        with open(self.path, encoding='ascii') as file:
+            return file.read().split('\n')
+
+    def test_an_entry_is_added_at_the_end(self) -> None:
+        add = metsuwan.record_file(self.path)
+        self.assertEqual(os.stat(self.path).st_mode & 0o777, 0o600)
+        with client_of('good', record=add) as kmip:
+            kmip.activate('k')
+            kmip.query()
+        first, second, rest = self.lines()
+        self.assertTrue(first.startswith('raw 42') and second.startswith('raw 42') and not rest)
+        with open(self.path, 'a', encoding='ascii') as file:
+            file.write('raw 4')     # of one who was killed
+        add('raw 5\n')
+        self.assertEqual(self.lines()[2:], ['raw 4', 'raw 5', ''])
+        with self.assertRaises(OSError):
+            metsuwan.record_file(self.path + '/none')
+
+    def test_processes_add_to_one_file(self) -> None:
+        program = ("import sys, metsuwan\nadd = metsuwan.record_file(sys.argv[1])\n"
+                   "for at in range(25): add('%s %s\\n' % (sys.argv[2], str(at % 10) * 20000))")
+        words = [[sys.executable, '-c', program, self.path, 'p%d' % at] for at in range(6)]
+        path = {**os.environ, 'PYTHONPATH': os.pathsep.join(sys.path)}
+        for process in [subprocess.Popen(word, env=path) for word in words]:
+            self.assertEqual(process.wait(), 0)
+        *whole, rest = self.lines()
+        self.assertEqual((len(whole), rest), (150, ''))
+        self.assertTrue(all(re.fullmatch(r'p\d (\d)\1{19999}', line) for line in whole))
+
+    def test_a_lock_that_is_held(self) -> None:
+        add = metsuwan.record_file(self.path)
+        with open(self.path, 'a', encoding='ascii') as file:
+            fcntl.flock(file, fcntl.LOCK_EX)
+            with mock.patch('metsuwan.records.MOST_WAIT', 0.2), \
+                    client_of('good', record=add) as kmip:
+                with self.assertRaisesRegex(NotRecorded, 'another process has it locked') as raised:
+                    kmip.query()
+            self.assertEqual(raised.exception.answer['vendor_identification'], 'fake')
+
+    def test_an_entry_that_does_not_fit_leaves_the_file_as_it_was(self) -> None:
+        program = ("import resource, signal, sys, metsuwan\n"
+                   "add = metsuwan.record_file(sys.argv[1])\nadd('raw 1\\n')\n"
+                   "signal.signal(signal.SIGXFSZ, signal.SIG_IGN)\n"
+                   "resource.setrlimit(resource.RLIMIT_FSIZE, (100, 100))\n"
+                   "try:\n    add('raw ' + '2' * 200 + '\\n')\nexcept OSError as error:\n"
+                   "    print(error.errno == 27)")
+        path = {**os.environ, 'PYTHONPATH': os.pathsep.join(sys.path)}
+        made = subprocess.run([sys.executable, '-c', program, self.path], env=path, check=True,
+                              stdout=subprocess.PIPE)
+        self.assertEqual((made.stdout, self.lines()), (b'True\n', ['raw 1', '']))
 
 
 if __name__ == '__main__':

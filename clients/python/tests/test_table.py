@@ -151,7 +151,7 @@ class Sessions(unittest.TestCase):
             'encrypt', 'decrypt', 'mac', 'mac-verify', 'verify', 'hash', 'check', 'attribute-list',
             'validate'})
         self.assertEqual(changeless & set(CALLS), {
-            'query', 'discover', 'locate', 'get', 'attributes', 'sign'})
+            'query', 'discover', 'locate', 'get', 'attributes', 'sign', 'rng'})
         self.assertLessEqual(changeless, set(WORDS))
 
     def test_the_log_has_its_name_and_no_value(self) -> None:

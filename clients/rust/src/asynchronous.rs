@@ -2,6 +2,7 @@
 use crate::client::Client;
 use crate::error::{Error, Result};
 use crate::pool::Pool;
+use crate::process::Process;
 use std::fmt::{self, Debug, Formatter};
 use std::future::Future;
 use std::io::{Read, Write};
@@ -87,7 +88,9 @@ impl<T: Read + Write + Send + 'static> AsyncClient<T> {
         make: impl FnOnce(&Client<T>) -> Result<R> + Send + 'static,
     ) -> impl Future<Output = Result<R>> + Send + 'static {
         let client = Arc::clone(&self.client);
-        in_thread(Arc::clone(&self.turns), move || make(&client))
+        // In the child of a fork nobody gives a turn back, and the call is refused.
+        let turns = if client.is_own() { Arc::clone(&self.turns) } else { own_turn() };
+        in_thread(turns, move || make(&client))
     }
 }
 
@@ -110,11 +113,13 @@ impl<T: Read + Write + Send + 'static> AsyncClient<T> {
 pub struct AsyncPool<T> {
     pool: Arc<Pool<T>>,
     turns: Arc<Semaphore>,
+    process: Process,
 }
 
 impl<T> Clone for AsyncPool<T> {
     fn clone(&self) -> Self {
-        AsyncPool { pool: Arc::clone(&self.pool), turns: Arc::clone(&self.turns) }
+        let (pool, turns) = (Arc::clone(&self.pool), Arc::clone(&self.turns));
+        AsyncPool { pool, turns, process: self.process }
     }
 }
 
@@ -136,7 +141,8 @@ impl<T: Read + Write + Send + 'static> AsyncPool<T> {
     /// Of this pool.
     pub fn new(pool: Pool<T>) -> Self {
         let turns = pool.size().min(Semaphore::MAX_PERMITS);
-        AsyncPool { pool: Arc::new(pool), turns: Arc::new(Semaphore::new(turns)) }
+        let (pool, turns) = (Arc::new(pool), Arc::new(Semaphore::new(turns)));
+        AsyncPool { pool, turns, process: Process::this() }
     }
 
     /// As [`AsyncClient::call`], on a client of the pool, which is opened in that thread where it
@@ -154,8 +160,15 @@ impl<T: Read + Write + Send + 'static> AsyncPool<T> {
         make: impl FnOnce(&Client<T>) -> Result<R> + Send + 'static,
     ) -> impl Future<Output = Result<R>> + Send + 'static {
         let pool = Arc::clone(&self.pool);
-        in_thread(Arc::clone(&self.turns), move || make(&*pool.client()?))
+        // In the child of a fork nobody gives a turn back, and threads wait in the pool.
+        let turns = if self.process.is_this() { Arc::clone(&self.turns) } else { own_turn() };
+        in_thread(turns, move || make(&*pool.client()?))
     }
+}
+
+/// A turn that comes at once.
+fn own_turn() -> Arc<Semaphore> {
+    Arc::new(Semaphore::new(1))
 }
 
 /// Makes it in a thread of its own, when its turn has come, which ends with it.

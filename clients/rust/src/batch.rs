@@ -26,6 +26,7 @@ const RESULT_STATUS: u32 = 0x42007F;
 const ITEM_ID: u32 = 0x420093;
 /// A Result Status.
 const FAILED: u32 = 1;
+const UNDONE: u32 = 3;
 
 /// What a server does after a call of a batch that failed.
 #[derive(Clone, Copy, Debug, Default, PartialEq, Eq, Hash)]
@@ -347,10 +348,23 @@ impl<'a> Message<'a> {
         self.parts[at].1.iter().any(|part| part.tag == ITEM_ID)
     }
 
+    /// The Result Status of the item at this place.
+    fn status(&self, at: usize) -> Option<u32> {
+        let status = self.parts[at].1.iter().find(|part| part.tag == RESULT_STATUS);
+        status.and_then(|part| part.number(ENUMERATION))
+    }
+
     /// Whether the item at this place says that its call has failed.
     fn has_failed(&self, at: usize) -> bool {
-        let status = self.parts[at].1.iter().find(|part| part.tag == RESULT_STATUS);
-        status.and_then(|part| part.number(ENUMERATION)) == Some(FAILED)
+        self.status(at) == Some(FAILED)
+    }
+
+    /// Whether its headers say that it has so many items.
+    fn has_count(&self, count: usize) -> bool {
+        let headers = self.parts.iter().filter(|(own, _)| own.is_structure(RESPONSE_HEADER));
+        let counts = headers.flat_map(|(_, inner)| inner).filter(|part| part.tag == BATCH_COUNT);
+        let counts: Vec<_> = counts.map(|part| part.number(INTEGER)).collect();
+        u32::try_from(count).is_ok_and(|count| counts.iter().all(|it| *it == Some(count)))
     }
 
     /// The response to a single call: the message with the batch item at this place and no other.
@@ -375,6 +389,12 @@ impl<'a> Message<'a> {
     }
 }
 
+/// Whether the response to a single call says that the server has undone it.
+pub(crate) fn is_undone(response: &[u8]) -> bool {
+    let Ok(message) = Message::of(response) else { return false };
+    message.items().iter().all(|at| message.status(*at) == Some(UNDONE))
+}
+
 /// Of each of so many calls the response, or `None` where the server has not come to it.
 fn responses_of(
     response: &[u8],
@@ -389,6 +409,10 @@ fn responses_of(
         if !message.has_id(alone) && message.has_failed(alone) {
             return Ok(vec![message.single(alone); count]);
         }
+    }
+    if !message.has_count(items.len()) {
+        let text = "the Batch Count is not that of the items of the response";
+        return Err(Error::other_object(text));
     }
     let mut places = vec![None; count];
     for at in items {

@@ -1,11 +1,12 @@
 //! A client over a stream.
 use crate::answer::Answer;
-use crate::batch::{Batch, Ids};
+use crate::batch::{self, Batch, Ids};
 use crate::error::{Error, Result};
 use crate::item::Item;
 use crate::library::{self, BadHead, NoRequest, Operation, Status};
 use crate::log::{self, Begun, Event, EventKind, Log};
 use crate::options::Given;
+use crate::process::Process;
 use crate::record::{self, Record};
 use crate::word::{with_options, Word, Words};
 use std::fmt::{self, Debug, Formatter};
@@ -154,7 +155,8 @@ impl<T: Read + Write> ClientBuilder<T> {
         let ClientBuilder { stream, credential, limit, before_call, reopen, log, record } = self;
         let stream = Some(stream);
         let wire = Wire { stream, is_busy: false, before_call, reopen, log, record };
-        Client { wire: Mutex::new(wire), credential, limit, random: library::random }
+        let process = Process::this();
+        Client { wire: Mutex::new(wire), process, credential, limit, random: library::random }
     }
 }
 
@@ -178,8 +180,13 @@ impl<T> Debug for ClientBuilder<T> {
 /// [`is_lost`](Error::is_lost), the stream is dropped, and each later call is a
 /// `RequestWriteError`, but where it is [opened again](ClientBuilder::with_reconnect). `Debug` shows
 /// no password.
+///
+/// It is of the process that made it: in the child of a fork each call is a `RequestWriteError`, and
+/// where the stream is one of this crate, its end ends nothing of the parent's.
 pub struct Client<T> {
     wire: Mutex<Wire<T>>,
+    /// The process whose connection it is.
+    process: Process,
     credential: Option<Credential>,
     limit: u32,
     /// What makes the Unique Batch Item IDs of operations and batches.
@@ -292,8 +299,12 @@ impl<T: Read + Write> Client<T> {
         Batch::new(self)
     }
 
-    /// The stream, where no call has lost it.
+    /// The stream, where no call has lost it, and it is none of a process that this one was forked
+    /// from.
     pub fn into_inner(self) -> Option<T> {
+        if !self.is_own() {
+            return None;
+        }
         let wire = self.wire.into_inner().unwrap_or_else(PoisonError::into_inner);
         wire.stream.filter(|_| !wire.is_busy)
     }
@@ -303,7 +314,7 @@ impl<T: Read + Write> Client<T> {
     }
 
     fn make(&self, asked: Asked<'_>) -> Result<Answer> {
-        let mut wire = self.wire();
+        let mut wire = self.own_wire()?;
         wire.ends_by(|wire| {
             let mut item_id = [0; 8];
             let (plain, asked) = (asked, asked.identified(&mut item_id, self.random)?);
@@ -326,7 +337,7 @@ impl<T: Read + Write> Client<T> {
         message_of: impl Fn(&[Vec<u8>], Ids) -> Result<Vec<u8>>,
         responses_of: impl FnOnce(&[u8], Ids) -> Result<Vec<Option<Vec<u8>>>>,
     ) -> Result<Vec<Result<Answer>>> {
-        let mut wire = self.wire();
+        let mut wire = self.own_wire()?;
         wire.ends_by(|wire| {
             let mut first_id = [0; 8];
             (self.random)(&mut first_id).map_err(Error::no_random)?;
@@ -362,25 +373,33 @@ impl<T: Read + Write> Client<T> {
 impl<T> Client<T> {
     /// Whether calls can be made: no call has lost the connection, or it may be opened again.
     pub fn is_open(&self) -> bool {
-        self.wire().is_open()
+        self.own_wire().is_ok_and(|wire| wire.is_open())
+    }
+
+    /// Whether this process made it, and not one that it was forked from.
+    pub(crate) fn is_own(&self) -> bool {
+        self.process.is_this()
     }
 
     /// Makes no call, and sends nothing: looks at the stream as before a call. After an error it is
     /// dropped.
-    #[cfg(feature = "r2d2")]
     pub(crate) fn look(&self) -> Result<()> {
-        self.wire().ends_by(Wire::look)
+        self.own_wire()?.ends_by(Wire::look)
     }
 
-    /// A call that panicked in the middle of a message has lost the connection, for all who come
-    /// after it.
-    fn wire(&self) -> MutexGuard<'_, Wire<T>> {
+    /// The stream and what goes with it. In the child of a fork the lock may be that of a thread
+    /// which is not there, so it is not taken. A call that panicked in the middle of a message has
+    /// lost the connection, for all who come after it.
+    fn own_wire(&self) -> Result<MutexGuard<'_, Wire<T>>> {
+        if !self.is_own() {
+            return Err(Error::not_own());
+        }
         let mut wire = self.wire.lock().unwrap_or_else(PoisonError::into_inner);
         if wire.is_busy {
             wire.stream = None;
             wire.is_busy = false;
         }
-        wire
+        Ok(wire)
     }
 }
 
@@ -404,7 +423,6 @@ impl<T> Wire<T> {
     }
 
     /// Looks at the stream as before a call, where there is one.
-    #[cfg(feature = "r2d2")]
     fn look(&mut self) -> Result<()> {
         let Wire { stream: Some(stream), before_call, .. } = self else { return Ok(()) };
         before_call(stream).map_err(Error::not_sent)
@@ -506,7 +524,12 @@ fn has_failed_in_time(error: &Error) -> bool {
 
 /// The answer to a call of a batch, where the server has come to it.
 fn answer_of_batch((call, response): (&Asked<'_>, Option<Vec<u8>>)) -> Result<Answer> {
-    call.read(response.ok_or_else(Error::not_done)?)
+    let response = response.ok_or_else(Error::not_done)?;
+    let is_undone = batch::is_undone(&response);
+    match call.read(response) {
+        Err(Error::InternalError(_)) if is_undone => Err(Error::undone()),
+        answer => answer,
+    }
 }
 
 /// A call, as the library takes it.

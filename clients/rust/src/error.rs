@@ -1,6 +1,6 @@
 //! Why a client has no answer.
 use crate::json::Json;
-use std::fmt::{self, Display, Formatter};
+use std::fmt::{self, Display, Formatter, Write};
 use std::io;
 use std::sync::Arc;
 
@@ -8,11 +8,34 @@ use std::sync::Arc;
 /// `use metsuwan::*` changes no `Result<T, E>`.
 pub type Result<T, E = Error> = std::result::Result<T, E>;
 
+/// The server refused the client's certificate, and so has read nothing of what was sent. A stream's
+/// [`io::Error`] that has this within makes a call a `ConnectError`.
+#[derive(Clone, Copy, Debug, PartialEq, Eq)]
+pub struct CertificateRefused(
+    /// The name of the alert of TLS, as `unknown CA`.
+    pub &'static str,
+);
+
+impl Display for CertificateRefused {
+    fn fmt(&self, f: &mut Formatter<'_>) -> fmt::Result {
+        write!(f, "the server refused the certificate: {}", self.0)
+    }
+}
+
+impl std::error::Error for CertificateRefused {}
+
+/// Whether a stream's error is that.
+fn is_refusal(error: &io::Error) -> bool {
+    error.get_ref().is_some_and(|error| error.is::<CertificateRefused>())
+}
+
 /// What is said of an error. `Display` writes its text.
 #[derive(Clone, Debug)]
 pub struct Details {
     text: String,
     lost: bool,
+    /// Whether the server may have read a part of the request.
+    sent: bool,
     source: Option<Arc<io::Error>>,
     said: Option<Box<Said>>,
 }
@@ -31,7 +54,7 @@ struct Said {
 /// Two are equal where all that is said is the same, and the stream's errors are of one kind.
 impl PartialEq for Details {
     fn eq(&self, other: &Details) -> bool {
-        let all = |details: &Details| (details.lost, details.io_kind());
+        let all = |details: &Details| (details.lost, details.sent, details.io_kind());
         all(self) == all(other) && self.text == other.text && self.said == other.said
     }
 }
@@ -40,12 +63,17 @@ impl Eq for Details {}
 
 impl Details {
     fn new(text: impl Into<String>, lost: bool) -> Details {
-        Details { text: text.into(), lost, source: None, said: None }
+        Details { text: text.into(), lost, sent: true, source: None, said: None }
+    }
+
+    /// Those of an error before anything was sent.
+    fn before(text: impl Into<String>, lost: bool) -> Details {
+        Details { sent: false, ..Details::new(text, lost) }
     }
 
     /// Those of an error of the stream, which is kept.
-    fn of_stream(text: impl Into<String>, error: io::Error) -> Details {
-        Details { source: Some(Arc::new(error)), ..Details::new(text, true) }
+    fn of_stream(text: impl Into<String>, error: io::Error, sent: bool) -> Details {
+        Details { source: Some(Arc::new(error)), sent, ..Details::new(text, true) }
     }
 
     /// The error, in words.
@@ -87,9 +115,21 @@ impl Details {
 }
 
 impl Display for Details {
+    /// The text, which may be a server's, as a terminal can be shown it.
     fn fmt(&self, f: &mut Formatter<'_>) -> fmt::Result {
-        f.write_str(&self.text)
+        self.text.chars().try_for_each(|sign| match sign {
+            sign if acts_on_a_terminal(sign) => write!(f, "{}", sign.escape_default()),
+            sign => f.write_char(sign),
+        })
     }
+}
+
+/// Whether a terminal would act on this sign, or not show it, or turn the direction of what follows.
+fn acts_on_a_terminal(sign: char) -> bool {
+    sign.is_control()
+        || matches!(sign, '\u{AD}' | '\u{61C}' | '\u{180E}' | '\u{FEFF}' | '\u{FFF9}'..='\u{FFFB}')
+        || matches!(sign, '\u{200B}'..='\u{200F}' | '\u{2028}'..='\u{202E}')
+        || matches!(sign, '\u{2060}'..='\u{206F}' | '\u{E0000}'..='\u{E007F}')
 }
 
 /// Why a client has no answer. The names are those of kmip-protocol, and some more.
@@ -102,7 +142,8 @@ pub enum Error {
     ConfigurationError(Details),
     /// The call was answered, and its answer has not the value that was asked for.
     MissingValue(Details),
-    /// There is no connection. Nothing was sent.
+    /// There is no connection, or the server refused the client's certificate. It has read nothing of
+    /// the request.
     ConnectError(Details),
     /// The request has no wire form. Nothing was sent.
     SerializeError(Details),
@@ -124,6 +165,8 @@ pub enum Error {
     ItemNotFound(Details),
     /// The server has not done this call of a batch, as after another one that failed.
     NotDone(Details),
+    /// The server has undone this call of a batch, since another one failed.
+    Undone(Details),
     /// Memory ran out. The connection is closed.
     OutOfMemory(Details),
     /// An error of another kind. The connection is closed where it [`is_lost`](Error::is_lost).
@@ -132,25 +175,23 @@ pub enum Error {
 
 impl Error {
     pub(crate) fn grammar(text: impl Into<String>) -> Error {
-        Error::GrammarError(Details::new(text, false))
+        Error::GrammarError(Details::before(text, false))
     }
 
     pub(crate) fn configuration(text: impl Into<String>) -> Error {
-        Error::ConfigurationError(Details::new(text, false))
+        Error::ConfigurationError(Details::before(text, false))
     }
 
     pub(crate) fn pool_is_closed() -> Error {
         Error::configuration("the pool is closed")
     }
 
-    #[cfg(feature = "openssl")]
     pub(crate) fn connect(text: impl Into<String>) -> Error {
-        Error::ConnectError(Details::new(text, true))
+        Error::ConnectError(Details::before(text, true))
     }
 
-    #[cfg(feature = "openssl")]
     pub(crate) fn connect_of(text: impl Into<String>, error: io::Error) -> Error {
-        Error::ConnectError(Details::of_stream(text, error))
+        Error::ConnectError(Details::of_stream(text, error, false))
     }
 
     pub(crate) fn other_object(text: impl Into<String>) -> Error {
@@ -162,30 +203,47 @@ impl Error {
     }
 
     pub(crate) fn no_form() -> Error {
-        Error::SerializeError(Details::new("request has no wire form", false))
+        Error::SerializeError(Details::before("request has no wire form", false))
     }
 
     pub(crate) fn closed() -> Error {
-        Error::RequestWriteError(Details::new("the connection is closed; nothing was sent", true))
+        Error::RequestWriteError(Details::before(
+            "the connection is closed; nothing was sent",
+            true,
+        ))
+    }
+
+    pub(crate) fn not_own() -> Error {
+        let text = "the connection is another process's; nothing was sent";
+        Error::RequestWriteError(Details::before(text, true))
     }
 
     pub(crate) fn not_sent(error: io::Error) -> Error {
+        if is_refusal(&error) {
+            return Error::connect_of(error.to_string(), error);
+        }
         let text = format!("{error}; nothing was sent");
-        Error::RequestWriteError(Details::of_stream(text, error))
+        Error::RequestWriteError(Details::of_stream(text, error, false))
     }
 
     pub(crate) fn no_random(error: io::Error) -> Error {
         let text =
             format!("no random bytes for the Unique Batch Item ID: {error}; nothing was sent");
-        Error::RequestWriteError(Details::of_stream(text, error))
+        Error::RequestWriteError(Details::of_stream(text, error, false))
     }
 
     pub(crate) fn write(error: io::Error) -> Error {
-        Error::RequestWriteError(Details::of_stream(error.to_string(), error))
+        if is_refusal(&error) {
+            return Error::connect_of(error.to_string(), error);
+        }
+        Error::RequestWriteError(Details::of_stream(error.to_string(), error, true))
     }
 
     pub(crate) fn read(error: io::Error) -> Error {
-        Error::ResponseReadError(Details::of_stream(error.to_string(), error))
+        if is_refusal(&error) {
+            return Error::connect_of(error.to_string(), error);
+        }
+        Error::ResponseReadError(Details::of_stream(error.to_string(), error, true))
     }
 
     pub(crate) fn bad_head(text: impl Into<String>) -> Error {
@@ -194,6 +252,10 @@ impl Error {
 
     pub(crate) fn not_done() -> Error {
         Error::NotDone(Details::new("the server has not done this call of the batch", false))
+    }
+
+    pub(crate) fn undone() -> Error {
+        Error::Undone(Details::new("the server has undone this call of the batch", false))
     }
 
     pub(crate) fn memory() -> Error {
@@ -223,7 +285,7 @@ impl Error {
             ..Details::new(said, lost)
         };
         match (kind, lost) {
-            ("SerializeError", false) => Error::SerializeError(details),
+            ("SerializeError", false) => Error::SerializeError(Details { sent: false, ..details }),
             ("ServerError", false) => Error::ServerError(details),
             ("ItemNotFound", false) => Error::ItemNotFound(details),
             ("InternalError", false) => Error::InternalError(details),
@@ -250,6 +312,7 @@ impl Error {
             Error::OtherObject(details) => ("OtherObject", details),
             Error::ItemNotFound(details) => ("ItemNotFound", details),
             Error::NotDone(details) => ("NotDone", details),
+            Error::Undone(details) => ("Undone", details),
             Error::OutOfMemory(details) => ("OutOfMemory", details),
             Error::Unknown(details) => ("Unknown", details),
         }
@@ -270,6 +333,12 @@ impl Error {
     /// was sent.
     pub fn is_lost(&self) -> bool {
         self.details().lost
+    }
+
+    /// Whether the server may have read a part of the request. Where it is false, the call may be
+    /// made again.
+    pub fn was_sent(&self) -> bool {
+        self.details().sent
     }
 
     /// Whether the stream failed or ended.
@@ -390,6 +459,20 @@ mod tests {
         let error = Error::of_line("{\"error\":\"ServerError\",\"text\":\"why\"}", false);
         assert_eq!(error.json().to_string(), "{\"error\":\"ServerError\",\"text\":\"why\"}");
         assert_eq!(error.details().reason(), None);
+    }
+
+    #[test]
+    fn no_sign_of_a_text_acts_on_a_terminal() {
+        let text = "caf\u{E9} \u{1B}[2J \u{9B}31m \u{202E}gnp.exe \u{2028} \n \u{7F}";
+        let error = Error::grammar(text);
+        let wanted =
+            r"GrammarError: caf\u{E9} \u{1b}[2J \u{9b}31m \u{202e}gnp.exe \u{2028} \n \u{7f}";
+        assert_eq!(error.to_string(), wanted.replace(r"\u{E9}", "\u{E9}"));
+        assert_eq!(error.details().text(), text);
+        assert_eq!(
+            Error::grammar("'a' \"b\" \\ \u{4E2D}").to_string(),
+            "GrammarError: 'a' \"b\" \\ \u{4E2D}"
+        );
     }
 
     #[test]

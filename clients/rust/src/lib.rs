@@ -36,6 +36,8 @@ mod error;
 mod item;
 mod json;
 mod keys;
+#[cfg(feature = "openssl")]
+mod known;
 pub mod library;
 mod log;
 #[cfg(feature = "r2d2")]
@@ -45,6 +47,7 @@ mod options;
 mod payload;
 mod pem;
 mod pool;
+mod process;
 mod record;
 #[cfg(feature = "openssl")]
 mod tls;
@@ -55,7 +58,7 @@ pub use answer::Answer;
 pub use asynchronous::{AsyncClient, AsyncPool};
 pub use batch::{Batch, BatchErrorContinuationOption};
 pub use client::{Client, ClientBuilder, Options, DEFAULT_LIMIT};
-pub use error::{Details, Error, Result};
+pub use error::{CertificateRefused, Details, Error, Result};
 pub use item::{Item, Value};
 pub use json::{Json, Text};
 pub use keys::SecretDataType;

@@ -89,7 +89,7 @@ impl<'a> Revoke<'a> {
         Revoke { message: Some(message), ..self }
     }
 
-    /// When the object was compromised, in seconds since 1970-01-01 UTC, from 0 to 4294967295: no
+    /// When the object was compromised, in seconds since 1970-01-01 UTC, from 0 to 2^63 - 1: no
     /// date where none is given. For `KeyCompromise` and `CACompromise` KMIP says that one should
     /// be (1.0, 4.19).
     pub fn with_since(self, seconds: i64) -> Self {
@@ -308,7 +308,7 @@ pub enum AttributeValue<'a> {
     CryptographicAlgorithm(CryptographicAlgorithm),
     /// Its length in bits.
     CryptographicLength(i32),
-    /// When it becomes active, in seconds since 1970-01-01 UTC, from 0 to 4294967295.
+    /// When it becomes active, in seconds since 1970-01-01 UTC, from 0 to 2^63 - 1.
     ActivationDate(i64),
 }
 

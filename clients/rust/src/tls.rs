@@ -1,6 +1,8 @@
 //! TLS connections by the openssl crate, each use of which ends by a deadline.
 use crate::client::{Client, ClientBuilder};
 use crate::error::{Error, Result};
+use crate::known;
+use crate::process::Process;
 use openssl::error::ErrorStack;
 use openssl::pkey::{PKey, Private};
 use openssl::ssl::{
@@ -11,7 +13,9 @@ use openssl::x509::verify::{X509CheckFlags, X509VerifyFlags};
 use openssl::x509::X509VerifyResult;
 use std::fmt::{self, Debug, Formatter};
 use std::io::{self, ErrorKind, Read, Write};
+use std::mem::ManuallyDrop;
 use std::net::{IpAddr, SocketAddr, TcpStream, ToSocketAddrs};
+use std::os::fd::{AsRawFd, FromRawFd, OwnedFd};
 use std::path::{Path, PathBuf};
 use std::sync::mpsc::{self, RecvTimeoutError};
 use std::thread;
@@ -172,7 +176,7 @@ impl TlsConnector {
         stream.set_nodelay(true)?;
         let mut ssl = Ssl::new(context)?;
         check_name(&mut ssl, name)?;
-        TlsStream::connect(ssl, stream, time)
+        TlsStream::connect(ssl, stream, time, name, false)
     }
 }
 
@@ -396,22 +400,47 @@ impl Write for Timed {
 }
 
 /// A TLS connection, each use of which ends by the deadline of its call. When it is dropped, its end
-/// is said to the server, and nothing is waited for.
+/// is said to the server, and nothing is waited for. In the child of a fork it is the parent's: each
+/// use is an error, and when it is dropped there, nothing is said.
 pub struct TlsStream {
-    tls: SslStream<Timed>,
+    /// Dropped in the process that opened it alone.
+    tls: ManuallyDrop<SslStream<Timed>>,
+    process: Process,
+    /// Whether a byte of an answer was read: then the server has taken the certificate.
+    has_read: bool,
 }
 
 impl TlsStream {
     /// TLS over this connection as the caller has set it up, as for a key in hardware or lists of
-    /// revoked certificates: whom it trusts, and whether by name, is the caller's. The handshake and
-    /// each call of a client have this time; `None` or zero is no deadline.
+    /// revoked certificates. The handshake and each call of a client have this time; `None` or zero
+    /// is no deadline.
+    ///
+    /// Whatever the context allows and its callbacks say, the server has to be known: it is TLS 1.2 or
+    /// later, with a cipher of 112 bits at least, in a new session; the server has a certificate with
+    /// this name or address, and it is verified by what the context trusts. A context that trusts by
+    /// DANE or a pin alone is refused.
     ///
     /// # Errors
-    /// `ConnectError`: the handshake failed.
-    pub fn from_ssl(ssl: Ssl, stream: TcpStream, timeout: Option<Duration>) -> Result<TlsStream> {
+    /// - `ConfigurationError`: the name is none
+    /// - `ConnectError`: the handshake failed, or the server is not known
+    pub fn from_ssl(
+        mut ssl: Ssl,
+        name: &str,
+        stream: TcpStream,
+        timeout: Option<Duration>,
+    ) -> Result<TlsStream> {
         let time = Time::new(timeout.filter(|time| !time.is_zero()));
-        let stream = TlsStream::connect(ssl, stream, time);
+        let connector = TlsConnector::new(name, 0);
+        let name = connector.name()?;
+        let stream = check_name(&mut ssl, name)
+            .map_err(io::Error::from)
+            .and_then(|()| TlsStream::connect(ssl, stream, time, name, true));
         stream.map_err(|error| Error::connect_of(error.to_string(), error))
+    }
+
+    /// What TLS is there: its version, its cipher and the server's certificate.
+    pub fn ssl(&self) -> &SslRef {
+        self.tls.ssl()
     }
 
     /// The builder of a client on this connection, which is looked at before each call.
@@ -419,18 +448,26 @@ impl TlsStream {
         ClientBuilder::new(self).with_before_call(TlsStream::begin)
     }
 
-    fn connect(ssl: Ssl, stream: TcpStream, time: Time) -> io::Result<TlsStream> {
+    fn connect(
+        ssl: Ssl,
+        stream: TcpStream,
+        time: Time,
+        name: &str,
+        is_callers: bool,
+    ) -> io::Result<TlsStream> {
         let timed = Timed { stream, time, is_waiting: true, has_ended: false };
-        let mut stream = TlsStream { tls: SslStream::new(ssl, timed)? };
-        match stream.tls.connect() {
-            Ok(()) => Ok(stream),
-            Err(error) => Err(stream.io_error(error)),
-        }
+        let tls = ManuallyDrop::new(SslStream::new(ssl, timed)?);
+        let mut stream = TlsStream { tls, process: Process::this(), has_read: false };
+        stream.tls.connect().map_err(|error| stream.io_error(error))?;
+        known::check(stream.tls.ssl(), name, is_callers)
+            .map_err(|text| io::Error::new(ErrorKind::PermissionDenied, text))?;
+        Ok(stream)
     }
 
     /// From here on the connection has the time of one call. It is looked at first: nothing may
     /// have come that no call had asked for.
     fn begin(&mut self) -> io::Result<()> {
+        self.check_process()?;
         let timed = self.tls.get_mut();
         timed.time = Time::new(timed.time.timeout);
         timed.wait(false)?;
@@ -446,6 +483,27 @@ impl TlsStream {
         }
     }
 
+    /// What could not be written may have been refused, with an alert that is not read yet.
+    fn alert_or(&mut self, error: io::Error) -> io::Error {
+        let is_torn = matches!(error.kind(), ErrorKind::BrokenPipe | ErrorKind::ConnectionReset);
+        if !is_torn || self.has_read || self.tls.get_mut().wait(false).is_err() {
+            return error;
+        }
+        match self.tls.ssl_read(&mut [0]) {
+            Err(alert) if alert.ssl_error().and_then(known::refusal_of).is_some() => {
+                self.io_error(alert)
+            }
+            _ => error,
+        }
+    }
+
+    fn check_process(&self) -> io::Result<()> {
+        if self.process.is_this() {
+            return Ok(());
+        }
+        Err(io::Error::new(ErrorKind::Other, "the connection is another process's"))
+    }
+
     /// What an error of TLS comes to.
     fn io_error(&self, error: ssl::Error) -> io::Error {
         if self.tls.get_ref().has_ended || error.code() == ErrorCode::ZERO_RETURN {
@@ -455,6 +513,11 @@ impl TlsStream {
             Ok(error) => return error,
             Err(error) => error,
         };
+        if let Some(refused) = error.ssl_error().and_then(known::refusal_of) {
+            if !self.has_read {
+                return io::Error::new(ErrorKind::PermissionDenied, refused);
+            }
+        }
         let mut text = error.ssl_error().map_or_else(|| error.to_string(), reasons);
         let verified = self.tls.ssl().verify_result();
         if verified != X509VerifyResult::OK {
@@ -468,6 +531,7 @@ impl TlsStream {
         &mut self,
         mut step: impl FnMut(&mut SslStream<Timed>) -> std::result::Result<usize, ssl::Error>,
     ) -> io::Result<usize> {
+        self.check_process()?;
         loop {
             match step(&mut self.tls) {
                 Ok(count) => return Ok(count),
@@ -494,7 +558,9 @@ impl Read for TlsStream {
         if into.is_empty() {
             return Ok(0);
         }
-        self.in_tls(|tls| tls.ssl_read(into))
+        let count = self.in_tls(|tls| tls.ssl_read(into))?;
+        self.has_read = true;
+        Ok(count)
     }
 }
 
@@ -503,7 +569,7 @@ impl Write for TlsStream {
         if bytes.is_empty() {
             return Ok(0);
         }
-        self.in_tls(|tls| tls.ssl_write(bytes))
+        self.in_tls(|tls| tls.ssl_write(bytes)).map_err(|error| self.alert_or(error))
     }
 
     fn flush(&mut self) -> io::Result<()> {
@@ -513,12 +579,21 @@ impl Write for TlsStream {
 
 impl Drop for TlsStream {
     fn drop(&mut self) {
-        // The connection ends, whether the server gets to know it or not.
         let timed = self.tls.get_mut();
+        if !self.process.is_this() {
+            // A thread that is not here may have a lock of OpenSSL, of which nothing is freed. Nor is
+            // the descriptor held, by which the parent's end of the connection would be none.
+            // Safety: what has the descriptor is never dropped, nor used again.
+            drop(unsafe { OwnedFd::from_raw_fd(timed.stream.as_raw_fd()) });
+            return;
+        }
+        // The connection ends, whether the server gets to know it or not.
         timed.time = Time::new(Some(Duration::from_secs(1)));
         if timed.wait(false).is_ok() {
             let _ = self.tls.shutdown();
         }
+        // Safety: this is the end of it.
+        unsafe { ManuallyDrop::drop(&mut self.tls) };
     }
 }
 
@@ -573,7 +648,9 @@ mod tests {
         let mut ssl = Ssl::new(&context.build()).unwrap();
         check_name(&mut ssl, TlsConnector::new(host, port).name().unwrap()).unwrap();
         let stream = TcpStream::connect(("127.0.0.1", port)).unwrap();
-        TlsStream::connect(ssl, stream, Time::new(Some(Duration::from_secs(100))))
+        let time = Time::new(Some(Duration::from_secs(100)));
+        let name = TlsConnector::new(host, port).name().unwrap().to_string();
+        TlsStream::connect(ssl, stream, time, &name, false)
     }
 
     #[test]

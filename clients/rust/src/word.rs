@@ -235,7 +235,7 @@ mod tests {
         let rows: [(&[&str], &str); 15] = [
             (
                 &["sign", "k", "", "padding=PSS", "hash=SHA3"],
-                "sign: hash=SHA3 is none of MD2, MD4, MD5, SHA1, ",
+                "sign: hash= is none of MD2, MD4, MD5, SHA1, ",
             ),
             (&["get", "k", "format=Raw", "format=Raw"], "get: format= is given twice"),
             (
@@ -244,11 +244,11 @@ mod tests {
             ),
             (
                 &["create", "AES", "8", "n", "usage=Sing"],
-                "create: usage=Sing is none of Sign, Verify, ",
+                "create: usage= is none of Sign, Verify, ",
             ),
             (&["register", "secret", ""], "register: KIND is none of public"),
             (&registered, "register: algorithm= is missing"),
-            (&["locate", "name=a", "state=x"], "locate: state=x is none of PreActive, Active, "),
+            (&["locate", "name=a", "state=x"], "locate: state= is none of PreActive, Active, "),
             (&["locate", "a", "name=a"], "locate: ATTRIBUTE is none of name=, group=, "),
             (&["attribute-add", "k"], "the words are not those of attribute-add ID ATTRIBUTE"),
             (&["raw", "00"], "raw: the bytes are not the one canonical message of a request"),

@@ -196,6 +196,35 @@ fn what_the_server_has_not_come_to() {
     }
 }
 
+#[test]
+fn what_the_server_has_undone() {
+    let undone = batch_item(&[0], ACTIVATE, &[enumeration(0x42007F, 3)]);
+    let failed = batch_item(&[1], ACTIVATE, &failed(1, "no such key"));
+    let (answers, client) = activated(&["a", "b"], Undo, &response_of_items(&[undone, failed]));
+    let answers = answers.unwrap();
+    let Err(error) = &answers[0] else { panic!("{:?}", answers[0]) };
+    assert!(matches!(error, Error::Undone(_)) && !error.is_lost() && client.is_open());
+    assert_eq!(error.to_string(), "Undone: the server has undone this call of the batch");
+    assert!(matches!(answers[1], Err(Error::ItemNotFound(_))));
+}
+
+#[test]
+fn another_batch_count_loses_the_connection() {
+    let response = response_of_items(&[of_activate(0, "a"), of_activate(1, "b")]);
+    let count = |number| integer(0x42000D, number);
+    let at = response.windows(16).position(|item| item == count(2)).unwrap();
+    for number in [0, 1, 7, -1] {
+        let mut other = response.clone();
+        other[at..at + 16].copy_from_slice(&count(number));
+        is_lost(
+            &["a", "b"],
+            Continue,
+            &other,
+            "OtherObject: the Batch Count is not that of the items of the response",
+        );
+    }
+}
+
 /// The response loses the connection, and this is said.
 fn is_lost(names: &[&str], on_error: BatchErrorContinuationOption, response: &[u8], text: &str) {
     let (answers, client) = activated(names, on_error, response);

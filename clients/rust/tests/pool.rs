@@ -7,6 +7,7 @@ use script::{Does, Script, Sent};
 use std::sync::atomic::{AtomicUsize, Ordering::SeqCst};
 use std::sync::{mpsc, Arc};
 use std::thread;
+use std::time::Duration;
 use ttlv::response;
 
 const QUERY: u32 = 0x18;
@@ -71,6 +72,60 @@ fn a_thread_waits_for_one_that_is_given_back() {
         assert_eq!(receiver.recv(), Ok("given"));
     });
     assert_eq!(opened.load(SeqCst), 1);
+}
+
+#[test]
+fn one_that_is_not_good_is_not_given_out() {
+    let opened = Arc::new(AtomicUsize::new(0));
+    let count = Arc::clone(&opened);
+    let open = move || -> metsuwan::Result<Client<Script>> {
+        count.fetch_add(1, SeqCst);
+        let does = vec![Does::Answer(response(QUERY, &[])); 9];
+        let mut looks = 0;
+        let builder = ClientBuilder::new(Script::new(&does, &Sent::default()));
+        // The server has ended each after its first call.
+        Ok(builder
+            .with_before_call(move |_| {
+                looks += 1;
+                if looks > 1 {
+                    Err(std::io::ErrorKind::UnexpectedEof.into())
+                } else {
+                    Ok(())
+                }
+            })
+            .build())
+    };
+    let pool = Pool::new(1, open).unwrap();
+    for _ in 0..3 {
+        pool.client().unwrap().query().unwrap();
+    }
+    assert_eq!(opened.load(SeqCst), 3);
+}
+
+#[test]
+fn a_place_is_waited_for_in_time() {
+    let (pool, _) = pool(1, 9);
+    let pool = pool.with_timeout(Some(Duration::from_millis(200)));
+    let client = pool.client().unwrap();
+    let error = pool.client().unwrap_err();
+    let wanted = "ConnectError: no connection of the pool is free within 0.2 seconds";
+    assert!(error.to_string() == wanted && !error.was_sent(), "{error}");
+    client.query().unwrap();
+    drop(client);
+    pool.client().unwrap().query().unwrap();
+}
+
+#[test]
+fn a_connection_has_an_age() {
+    for (age, wanted) in [(Duration::ZERO, 3), (Duration::from_secs(1000), 1)] {
+        let (pool, opened) = pool(1, 9);
+        let pool = pool.with_max_age(age);
+        for _ in 0..3 {
+            pool.client().unwrap().query().unwrap();
+            thread::sleep(Duration::from_millis(2));
+        }
+        assert_eq!(opened.load(SeqCst), wanted);
+    }
 }
 
 fn is_closed(pool: &Pool<Script>) -> bool {

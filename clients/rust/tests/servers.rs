@@ -1,43 +1,15 @@
-//! Sessions over TLS with servers that make it hard. tests/live/unit.sh starts them, and says
-//! where they are: METSUWAN_FAKES is the file of their ports, METSUWAN_CERTS the folder of their
-//! certificates.
+//! Sessions over TLS with servers that make it hard.
+mod fakes;
+
+use fakes::{client, connector, folder, port_of, LONG};
 use metsuwan::{BatchErrorContinuationOption, Error, EventKind, Item, Pool, Result, Word};
 use metsuwan::{TlsClient, TlsConnector, TlsStream};
 use openssl::ssl::{Ssl, SslContext, SslFiletype, SslMethod, SslVerifyMode};
 use std::io::ErrorKind;
 use std::net::TcpStream;
-use std::path::PathBuf;
 use std::sync::{Arc, Mutex};
 use std::thread;
 use std::time::{Duration, Instant};
-
-fn folder() -> PathBuf {
-    std::env::var_os("METSUWAN_CERTS").expect("METSUWAN_CERTS").into()
-}
-
-/// Servers that keep silent do so for ever: what ends by then has ended by itself, on a busy machine
-/// too.
-const LONG: Duration = Duration::from_secs(100);
-
-fn port_of(name: &str) -> u16 {
-    let path = std::env::var_os("METSUWAN_FAKES").expect("METSUWAN_FAKES");
-    let ports = std::fs::read_to_string(path).unwrap();
-    let mut found = ports.lines().filter_map(|line| line.split_once(' '));
-    let (_, port) = found.find(|(fake, _)| *fake == name).expect("a fake of this name");
-    port.parse().unwrap()
-}
-
-fn connector(fake: &str, host: &str, client: &str) -> TlsConnector {
-    let file = |name: String| folder().join(name);
-    TlsConnector::new(host, port_of(fake))
-        .with_certificate(file(format!("{client}.pem")), file(format!("{client}.key")))
-        .with_authority(file("ca.pem".into()))
-        .with_timeout(Some(Duration::from_secs(60)))
-}
-
-fn client(fake: &str) -> TlsClient {
-    connector(fake, "localhost", "client").connect().unwrap().build()
-}
 
 /// The next call ends so, and each later one says that the connection is closed.
 fn is_lost(client: &TlsClient, wanted: &str) {
@@ -72,7 +44,12 @@ fn any_operation() {
             "the payload: line 1, column 1, tag: expected the name of a tag, or 0x and six hex \
              digits, found nothing",
         ),
-        ("Get", "1.2", &nothing, "the payload: a UniqueIdentifier in it is empty"),
+        (
+            "Get",
+            "1.2",
+            &nothing,
+            "the payload: an identifier or an AsynchronousCorrelationValue in it is empty",
+        ),
     ] {
         let error = client.operation(name, version, payload).unwrap_err();
         assert_eq!(error.to_string(), format!("GrammarError: {wanted}"));
@@ -187,10 +164,9 @@ fn tls_that_the_caller_has_set_up() {
     context.set_private_key_file(file("client.key"), SslFiletype::PEM).unwrap();
     let context = context.build();
     let open = |fake: &str, timeout| {
-        let mut ssl = Ssl::new(&context).unwrap();
-        ssl.param_mut().set_host("localhost").unwrap();
+        let ssl = Ssl::new(&context).unwrap();
         let stream = TcpStream::connect(("127.0.0.1", port_of(fake))).unwrap();
-        TlsStream::from_ssl(ssl, stream, timeout)
+        TlsStream::from_ssl(ssl, "localhost", stream, timeout)
     };
     let client = open("certificate", None).unwrap().into_builder().build();
     assert_eq!(client.query().unwrap().vendor_identification.as_deref(), Some("alice"));

@@ -8,6 +8,7 @@ copy="$work/a copy"
 kit="$work/a kit"
 mkdir -p "$copy/crates" "$copy/tools" "$kit/c" "$kit/bin"
 cp -r "$top/clients" "$top/crates.txt" "$top/HANDLES" "$copy"
+cp "$top/tools/inline_hints.py" "$copy/tools"
 printf 'int memory(void) { return 1; }\n' >memory.c
 printf 'int kmip_request(void) { return 2; }\n' >library.c
 gcc -c memory.c library.c && ar rc "$kit/c/liblibc_c.a" memory.o && ar rc ready.a library.o
@@ -54,7 +55,7 @@ built_is() { # WHAT STATUS WORD..: build.sh has this status, in this folder
 }
 
 built_is 'build.sh: proved, into a relative path with a space' 0 'the folder'
-says 'each crate is shown, of how many' '^\[1/[0-9]+\] kmip_[a-z_]+: kept$'
+says 'each crate is shown, of how many, with the time so far' '^\[1/[0-9]+\] kmip_[a-z_]+: kept, after 0:[0-9][0-9]$'
 wanted=$(sed -n 's/^kmip_c staticlib: *//p' "$copy/crates.txt")
 [[ $(tail -1 asked) == *" --crate-type staticlib "* ]]
 verdict 'the library is built last'
@@ -96,12 +97,38 @@ LOGIC=unproved built_is 'a library that is not proved ends it' 1 broken
 says 'which is said' 'kmip_c is not proved'
 [[ ! -e $(echo broken/lib*.a) ]]
 verdict 'and there is no library'
+before=$(wc -l <asked)
+built_is 'build.sh: once more into the same folder' 0 'the folder'
+says 'what was made before is not made again' '^the library \.\. is there, made before'
+[[ $(wc -l <asked) == "$before" && $("the folder/kmip_call") == 'kmip_call of the copy' ]]
+verdict 'and rt is not asked'
+version_is 'the library is as it was' 'the folder' '^[0-9.]+, proved$'
+echo '// changed' >"$copy/crates/kmip_wire/src/lib.rt"
+built_is 'build.sh: after a change of a crate' 0 'the folder'
+(($(wc -l <asked) > before))
+verdict 'it is made anew'
+built_is 'build.sh --unproved over what was proved' 0 --unproved 'the folder'
+says_not 'takes nothing of it' 'made before'
+rm "$copy/crates/kmip_wire/src/lib.rt"
 built_is 'build.sh FOLDER --unproved' 0 second --unproved
 built_is 'build.sh --unproved FOLDER' 0 --unproved third
 says 'it says how long it takes' 'minutes'
 built_is 'build.sh --unproved --encoder' 0 --unproved --encoder encoding
 [[ -x encoding/kmip_ttlv && ! -e third/kmip_ttlv ]]
 verdict 'makes the encoder too'
+# `cargo` of this kit makes a command that makes two pages.
+cat >"$kit/bin/cargo" <<'CARGO'
+#!/bin/bash
+[[ $1 == build && -f Cargo.toml && -f ../rust/Cargo.toml && -e $LIBMETSUWAN_DIR/libmetsuwan.a ]] || exit 1
+[[ $PWD != */clients/command ]] || exit 2
+mkdir -p "$CARGO_TARGET_DIR/release"
+printf '#!/bin/bash\n[[ $1 == __man ]] && touch "$2/kmip.1" "$2/kmip-sign.1"\n' >"$CARGO_TARGET_DIR/release/kmip"
+chmod +x "$CARGO_TARGET_DIR/release/kmip"
+CARGO
+ln -s cargo "$kit/bin/rustc" && chmod +x "$kit/bin/cargo"
+built_is 'build.sh --command' 0 --unproved --command 'the command'
+[[ -x 'the command/kmip' && -e 'the command/man/kmip-sign.1' && -x 'the command/kmip_ttlv' ]]
+verdict 'makes the command, its pages and the encoder'
 built_is 'a program and a library that were built before' 0 --library ready.a fourth --program second/kmip_call
 version_is 'of a library that was given its proof is not known' fourth '^[0-9.]+, proof unknown$'
 printf 'char kmip_not_proved[1];\n' >note.c && gcc -c note.c && ar rc noted.a library.o note.o

@@ -15,6 +15,10 @@ mkdir whole
 cp "$built"/kmip_call "$built"/libmetsuwan.* whole
 printf '#!/bin/sh\necho an encoder\n' >whole/kmip_ttlv
 chmod +x whole/kmip_ttlv
+printf '#!/bin/sh\necho a command\n' >whole/kmip
+chmod +x whole/kmip
+mkdir whole/man
+touch whole/man/kmip.1 whole/man/kmip-sign.1
 echo '<html>' >whole/kmip.html
 echo 'a provider' >whole/metsuwan.so
 in_place() { # WORD..: install.sh, whatever the environment has
@@ -24,9 +28,11 @@ in_place --built whole --prefix /opt/kmip --destdir 'a stage'
 verdict 'install.sh, below a folder with a space'
 stage="a stage/opt/kmip"
 missing=''
-for file in bin/{kmip_call,kmip_ttlv,kmip.sh,kmip_keys.sh} lib/libmetsuwan{,_tls}.{a,so,so.2} include/metsuwan{,_tls}.h \
-    lib/pkgconfig/metsuwan{,_tls}.pc lib/ossl-modules/metsuwan.so share/man/man1/{kmip_call,kmip.sh,kmip_ttlv}.1 \
-    share/bash-completion/completions/{kmip_call,kmip,kmip_field,kmip_open} share/metsuwan/kmip.html share/doc/metsuwan/LICENSE; do
+for file in bin/{kmip_call,kmip_ttlv,kmip,kmip-test-server,kmip.sh,kmip_keys.sh} lib/libmetsuwan{,_tls}.{a,so,so.2} include/metsuwan{,_tls}.h \
+    lib/pkgconfig/metsuwan{,_tls}.pc lib/ossl-modules/metsuwan.so share/man/man1/{kmip_call,kmip,kmip-sign,kmip.sh,kmip_ttlv}.1 \
+    share/man/man5/kmip.conf.5 share/zsh/site-functions/_kmip \
+    share/bash-completion/completions/{kmip_call,kmip,kmip_field,kmip_open} share/metsuwan/kmip.html share/doc/metsuwan/LICENSE \
+    bin/kmip_{test,try}_server share/metsuwan/tools/{test_server.sh,live/certs.sh,live/start_server.sh}; do
     [[ -e $stage/$file ]] || missing+=" $file"
 done
 printf 'missing:%s\n' "$missing" >>"$said"
@@ -59,8 +65,8 @@ verdict 'nothing is installed by any of these'
 release() { env -i PATH="$PATH" HOME="$work" SOURCE_DATE_EPOCH="${2-1700000000}" "$top/clients/release.sh" --built whole "$1" >"$said" 2>&1; }
 release out
 verdict 'release.sh'
-(cd out && sha256sum --strict -c SHA256SUMS) >"$said" 2>&1 && [[ $(wc -l <out/SHA256SUMS) == 2 ]]
-verdict 'the sums are those of the two packages'
+(cd out && sha256sum --strict -c SHA256SUMS && [[ $(wc -l <SHA256SUMS) == "$(find . -type f -not -name SHA256SUMS | wc -l)" ]]) >"$said" 2>&1
+verdict 'the sums are those of all that it made'
 release again && cmp out/SHA256SUMS again/SHA256SUMS >"$said" 2>&1
 verdict 'a second run makes the same bytes'
 tarball=$(echo out/metsuwan-*-linux-x86_64.tar.gz) deb=$(echo out/metsuwan_*_amd64.deb)
@@ -68,8 +74,52 @@ mkdir root
 tar -xzf "$tarball" -C root --strip-components 1 && [[ -s root/LICENSE && -s root/bin/kmip_call ]]
 verdict 'the tarball has the program and the licence'
 note=$(sed -n 's/^Metsuwan \([^ ]*\), .* glibc [0-9.]* or later.*/\1/p' root/VERSION)
-[[ $tarball == "out/metsuwan-$note-linux-x86_64.tar.gz" && $deb == "out/metsuwan_${note}_amd64.deb" ]]
+[[ $tarball == "out/metsuwan-$note-linux-x86_64.tar.gz" && $deb == "out/metsuwan_${note/+/\~}_amd64.deb" ]]
 verdict "each says its version: $note"
+missing=''
+for file in bin/kmip_{test,try}_server share/metsuwan/tools/live/certs.sh share/doc/metsuwan/{README.md,docs/CALL.md,docs/page-exchanges.png} \
+    share/doc/metsuwan/clients/{README.md,c/call.c,shell/life.sh,python/call.py,rust/examples/call.rs}; do
+    [[ -e root/$file ]] || missing+=" $file"
+done
+printf 'missing:%s\n' "$missing" >"$said"
+[[ -z $missing ]]
+verdict 'the tarball has the test server, the documents and the examples'
+# What is not proved is older than what is, and does not call itself proved.
+if [[ $note == *+* ]]; then
+    dpkg --compare-versions "$(dpkg-deb --field "$deb" Version)" lt "${note%+*}"
+    verdict 'a package that is not proved sorts below the proved one'
+    dpkg-deb --field "$deb" Description >"$said"
+    says_not 'and is not said to be proved' 'a proved library'
+    wheel=$(cd out && echo metsuwan-*.whl) crate=$(cd out && echo metsuwan-*.crate)
+    if [[ -f out/$wheel ]]; then
+        [[ $wheel == "metsuwan-${note%+*}.dev0+${note#*+}-py3-none-"* ]]
+        verdict 'nor a wheel (PEP 440)'
+    else
+        echo 'skipped shell: the wheel: there is no pip, setuptools or wheel'
+    fi
+    if [[ -f out/$crate ]]; then
+        [[ $crate == "metsuwan-${note%+*}.0-$(tr -d . <<<"${note#*+}").crate" ]]
+        verdict 'nor the crate (Semantic Versioning)'
+        tar -xzf "out/$crate" && grep -q "^version = \"${note%+*}.0-" metsuwan-*/Cargo.toml
+        verdict 'whose sources say so'
+    else
+        echo 'skipped shell: the crate: there is no cargo'
+    fi
+fi
+# The server of the release, started with no checkout near.
+if type -P pykmip-server openssl >"$said"; then
+    mkdir alone
+    (cd alone && env -i PATH="$work/root/bin:$PATH" HOME="$work" kmip_test_server start) >"$said" 2>&1
+    verdict 'kmip_test_server of the tarball starts'
+    sed -n '/^Enter:/,/^And/s/^    //p' "$said" >enter.sh
+    printf 'kmip activate 2; kmip_field signature_data sign 2 68656C6C6F; kmip_close\n' >>enter.sh
+    (cd alone && env -i PATH="$work/root/bin:$PATH" HOME="$work" bash ../enter.sh) >"$said" 2>&1
+    says 'and what it says to enter, signs' '^[0-9A-F]{512}$'
+    (cd alone && env -i PATH="$work/root/bin:$PATH" HOME="$work" kmip_test_server stop) >"$said" 2>&1 && [[ ! -e alone/built/test_server ]]
+    verdict 'and stops'
+else
+    echo 'skipped shell: the server of a release: there is no pykmip-server'
+fi
 # An empty root with the C library and bash, and nothing that builds: the loader and the libraries that these two ask for.
 libraries_of() { # PROGRAM..
     ldd "$@" | grep -oE '/[^ ]+' | grep -v ':$' | sort -u

@@ -207,7 +207,8 @@ function joined(made, all) {
 function noKmip(made, full, secret) {
   const found = 'In ' + made.form + ' with ' + counted(full.length, 'TCP connection')
     + ' no unencrypted KMIP was found';
-  return found + (secret ? '; ' + secret + ' of them by TLS, which the page does not read.' : '.');
+  return found + (secret ? '; ' + secret + ' of them by TLS: with a key log '
+    + 'tshark -z follow,tls,raw makes the bytes plain.' : '.');
 }
 function addConnection(made, connection) {
   const firsts = [0, 1].map(way => firstOf(connection, way));

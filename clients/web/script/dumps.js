@@ -32,11 +32,12 @@ function baseOf(rows) {
 }
 const dumps = {
   form: 'a dump with offsets',
-  fits: lines => lines.some(isFirst),
-  read(lines) {
-    const rows = lines.map(rowOf), made = reading(this.form, BY_STREAM);
+  fits: lines => someOf(lines, isFirst),
+  * read(lines) {
+    const rows = [], made = reading(this.form, BY_STREAM);
+    yield* each(lines, line => rows.push(rowOf(line)));
     const state = { made, base: baseOf(rows), sides: {}, last: null };
-    rows.forEach((row, i) => readRow(state, row, lines[i], i + 1));
+    yield* each(rows, (row, i) => readRow(state, row, lines[i], i + 1));
     for (const side of SIDES) closeDump(state, side);
     made.chunks.sort((a, b) => a.line - b.line);
     if (state.sides.received) return turned(made);
@@ -102,11 +103,11 @@ const PACKET_ROW = /^([0-9a-f]{4})  ((?:[0-9a-f]{2} {1,2}){1,16})/i;
 const OTHER_BLOCK = /^(?!Frame)\S.* \(\d+ bytes\):$/; // put together, as Reassembled TCP
 const packets = {
   form: "packets of tshark -x",
-  fits: lines => lines.some(line => PACKET_ROW.test(line + ' ') && line.startsWith('0000')),
-  read(lines) {
+  fits: lines => someOf(lines, line => line.startsWith('0000') && PACKET_ROW.test(line + ' ')),
+  * read(lines) {
     const blocks = [], made = reading(this.form, BY_STREAM);
     let at = null, isOther = false;
-    lines.forEach((line, i) => {
+    yield* each(lines, (line, i) => {
       const row = PACKET_ROW.exec(line + ' ');
       if (/ bytes\):$/.test(line)) isOther = OTHER_BLOCK.test(line);
       if (!row) made.others += line.trim() ? 1 : 0;

@@ -3,42 +3,63 @@
 const fields = { sent: null, received: null };
 const LONGEST = 100000; // characters that a field shows: with more it is slow
 const loads = { next: 0, last: {} };
-const chunksAt = side => (fields[side]?.chunks || [])
-  .map(chunk => ({ ...chunk, side: chunk.side || side, unit: fields[side].unit }));
-const sidesAt = side => new Set(chunksAt(side).map(chunk => chunk.side));
+const placed = (chunk, side) => ({ ...chunk, side: chunk.side || side, unit: fields[side].unit });
+const chunksAt = side => (fields[side]?.chunks || []).map(chunk => placed(chunk, side));
+const sidesAt = side => new Set([...fields[side]?.sides || []].map(own => own || side));
 
 const NAMED_FILES = [[[0x1f, 0x8b], 'a gzip file: unpack it first'],
   [[0x50, 0x4b, 3, 4], 'a zip file: unpack it first'], [[0x28, 0xb5, 0x2f, 0xfd],
-    'a zstd file: unpack it first'], [[0x16, 3], 'TLS, which is encrypted: capture where the '
-    + 'bytes are plain'], [[0x25, 0x50, 0x44, 0x46], 'a PDF file']];
-// The text of bytes, if they are one: in UTF-16 with its mark, as PowerShell writes, or in UTF-8.
-function textIn(bytes) {
-  if (bytes[0] === 0xff && bytes[1] === 0xfe) return new TextDecoder('utf-16le').decode(bytes);
-  if (bytes.subarray(0, 65536).includes(0)) return null;
-  try {
-    return new TextDecoder('utf-8', { fatal: true }).decode(bytes);
-  } catch {
-    return null;
+    'a zstd file: unpack it first'], [[0x16, 3], 'TLS, which is encrypted: it wants a proxy, or '
+    + 'a key log and tshark -z follow,tls,raw'], [[0x25, 0x50, 0x44, 0x46], 'a PDF file']];
+// The text of bytes, in parts: in UTF-16 with its mark, as PowerShell writes, or in UTF-8. Bytes
+// that are none throw a TypeError, in whichever part.
+function* partsOfBytes(bytes) {
+  const isWide = bytes[0] === 0xff && bytes[1] === 0xfe;
+  const decoder = new TextDecoder(isWide ? 'utf-16le' : 'utf-8', { fatal: !isWide });
+  if (!isWide && bytes.subarray(0, 65536).includes(0)) throw new TypeError('a zero byte');
+  for (let at = 0; at < bytes.length; at += SLICED) {
+    yield decoder.decode(bytes.subarray(at, at + SLICED), { stream: at + SLICED < bytes.length });
   }
 }
-function readGiven(bytes) {
+function* readGiven(bytes) {
+  if (!bytes.length) throw new Error('The file is empty.');
   const named = NAMED_FILES.find(([head]) => head.every((byte, i) => bytes[i] === byte));
   if (named) throw new Error('This is ' + named[1] + '.');
   if (isCapture(bytes)) return readCapture(bytes);
-  const text = textIn(bytes);
-  if (text !== null) return readText(text);
+  try {
+    return yield* readLines(partsOfBytes(bytes));
+  } catch (error) {
+    if (!(error instanceof TypeError)) throw error;
+  }
   const made = reading('bytes', BY_PLACES);
   made.chunks.push({ side: null, bytes, line: 1 });
   return made;
 }
-function readOrSay(read) {
+function* readOrSay(steps) {
   try {
-    const made = read();
+    const made = yield* steps;
+    yield* each(made.chunks, chunk => made.sides.add(chunk.side));
     if (made.chunks.some(chunk => chunk.bytes.length)) return made;
-    return { ...made, chunks: [], failed: 'Nothing in it could be read.' };
+    return { ...made, chunks: [], sides: new Set(), failed: 'Nothing in it could be read.' };
   } catch (error) {
     return { ...reading('', BY_PLACES), failed: reasonOf(error) };
   }
+}
+// Reads what may be long, while nothing else is asked for in its field. The first rows are shown
+// before all is read.
+const FIRST_CHUNKS = 1000;
+async function putLong(side, number, steps, name) {
+  let isBegun = false;
+  const look = made => {
+    if (isBegun || made.chunks.length < FIRST_CHUNKS) return;
+    isBegun = true;
+    giveBytes(made);
+    const chunks = made.chunks.slice(0, FIRST_CHUNKS), sides = new Set(SIDES);
+    put(side, number, { ...made, chunks, sides, notes: ['the rest is being read'] }, name);
+  };
+  $('took').textContent = 'reading';
+  const made = await inTurns(readOrSay(steps), () => loads.last[side] === number, look);
+  return made && put(side, number, { ...made, isRest: isBegun }, name);
 }
 
 // Puts a reading in a field. Of two fields that have bytes for the same side, the one that was
@@ -79,7 +100,8 @@ function takeText(side, text, isTyped) {
     fields[side] = null;
     return show();
   }
-  return put(side, number, readOrSay(() => readText(text)), '');
+  if (isLong) return putLong(side, number, readText(text), '');
+  return put(side, number, atOnce(readOrSay(readText(text))), '');
 }
 async function takeFile(side, file) {
   await page.started;
@@ -93,7 +115,7 @@ async function takeFile(side, file) {
     const failed = 'The browser could not read ' + file.name + ': ' + reasonOf(error);
     return put(side, number, { ...reading('', BY_PLACES), failed }, file.name);
   }
-  return put(side, number, readOrSay(() => readGiven(bytes)), file.name);
+  return putLong(side, number, readGiven(bytes), file.name);
 }
 // Two files are what was sent and what was received, in either order.
 async function takeFiles(side, files) {
@@ -111,31 +133,45 @@ async function firstBytes(file) {
   }
 }
 
-// What is shown.
+// What is shown: much of it in turns with the page, until something else is to be shown.
+const shows = { last: 0, atOnce: 2000 }; // chunks that are shown at once
 function show() {
   stopAll();
   $('out').replaceChildren();
   $('left').replaceChildren();
-  const start = performance.now(), chunks = SIDES.flatMap(chunksAt);
-  const held = SIDES.filter(side => fields[side]);
+  const number = ++shows.last, held = SIDES.filter(side => fields[side]);
+  const count = held.reduce((sum, side) => sum + fields[side].chunks.length, 0);
+  const size = held.reduce((sum, side) => sum + (fields[side].chunks[0]?.bytes.length || 0), 0);
   document.body.classList.toggle('empty', !held.length);
   if (!page.wasm || !held.length) {
     $('summary').textContent = '';
-    return;
+    return null;
   }
+  const steps = showing(held);
+  if (count <= shows.atOnce && size <= PART) return atOnce(steps);
+  return inTurns(steps, () => shows.last === number);
+}
+function* showing(held) {
+  const start = performance.now();
   try {
-    const rows = chunks.length ? rowsOfFields(chunks) : [];
+    const chunks = [];
+    for (const side of held) {
+      yield* each(fields[side].chunks, chunk => chunks.push(placed(chunk, side)));
+    }
+    const rows = chunks.length ? yield* rowsOfFields(chunks) : [];
+    yield;
     sayRead(held, rows, chunks);
-    if (rows.length) drawTable(rows);
+    if (rows.length) drawTable(rows, held.some(side => fields[side].isRest));
     if (rows.length === 1) table.body.querySelector('button').click();
   } catch (error) {
     $('summary').append(element('p', 'bad error', reasonOf(error)));
   }
   $('took').textContent = Math.round(performance.now() - start) + ' ms';
 }
-function rowsOfFields(chunks) {
+function* rowsOfFields(chunks) {
   const [first, second] = SIDES.filter(side => fields[side]?.chunks.length);
-  const rows = rowsOf(messagesOf(chunks), second ? BY_PLACES : fields[first].pairing);
+  const messages = yield* messagesOf(chunks);
+  const rows = yield* rowsOf(messages, second ? BY_PLACES : fields[first].pairing);
   const isPaired = SIDES.every(side => rows.some(row => row[side]));
   for (const row of rows) row.isPaired = isPaired;
   return rows;

@@ -37,39 +37,47 @@ function hexText(bytes) {
   return text;
 }
 
+// What a button shows, and its whole name: which message it is of, since each has such buttons.
+function labelled(made, label, owner) {
+  made.textContent = label;
+  made.setAttribute('aria-label', owner ? label + ', ' + owner : label);
+  return made;
+}
 // A button that copies what it computes when it is pressed.
-function copyButton(label, compute, cls) {
-  return button(label, async made => {
+function copyButton(label, owner, compute, cls) {
+  return labelled(button(label, async made => {
+    const say = text => labelled(made, text, label + ', ' + owner);
     try {
       await navigator.clipboard.writeText(compute());
-      made.textContent = 'copied';
+      say('copied');
     } catch (error) {
-      made.textContent = error instanceof DOMException ? 'the browser refused' : reasonOf(error);
+      say(error instanceof DOMException ? 'the browser refused' : reasonOf(error));
     }
-    setTimeout(() => { made.textContent = label; }, 1500);
-  }, cls);
+    setTimeout(() => labelled(made, label, owner), 1500);
+  }, cls), label, owner);
 }
 const reasonOf = error => (error instanceof RangeError ? REFUSED : String(error.message || error));
-function saveButton(name, bytes) {
-  return button('Save', () => {
+function saveButton(name, bytes, owner) {
+  return labelled(button('Save', () => {
     const link = element('a'), address = URL.createObjectURL(new Blob([bytes]));
     link.href = address;
     link.download = name;
     link.click();
     setTimeout(() => URL.revokeObjectURL(address), 60000);
-  }, 'save');
+  }, 'save'), 'Save', owner);
 }
-function copyBar(message, isItem) {
-  const { bytes } = message, bar = element('div', 'bar', '', 'Copy: ',
-    copyButton('skeleton', () => skeletonOf(bytes), 'copy'),
-    copyButton('hex', () => hexText(bytes), 'copy-hex'));
+function copyBar(message, owner, isItem) {
+  const { bytes } = message, add = (...words) => bar.append(copyButton(...words));
+  const bar = element('div', 'bar');
+  add('Copy skeleton', owner, () => skeletonOf(bytes), 'copy');
+  add('Copy hex', owner, () => hexText(bytes), 'copy-hex');
   if (isItem) {
-    bar.append(copyButton('JSON', () => withoutOffsets(jsonOf(bytes)), 'copy-json'),
-      copyButton('XML', () => xmlOf(JSON.parse(withoutOffsets(jsonOf(bytes)))), 'copy-xml'));
+    add('Copy JSON', owner, () => withoutOffsets(jsonOf(bytes)), 'copy-json');
+    add('Copy XML', owner, () => xmlOf(JSON.parse(withoutOffsets(jsonOf(bytes)))), 'copy-xml');
   }
   bar.append(element('small', '', isItem ? 'all but the skeleton with all values'
     : 'hex with all values'));
-  bar.append(saveButton('kmip-' + message.side + '-' + message.from + '.bin', bytes));
+  bar.append(saveButton('kmip-' + message.side + '-' + message.from + '.bin', bytes, owner));
   return bar;
 }
 // The JSON with offsets. A character that turns the direction of a text round is escaped.
@@ -86,7 +94,7 @@ function jsonFold(bytes) {
   });
   return made;
 }
-function viewBar(tree, sides) {
+function viewBar(tree, sides, owner) {
   const toggle = button('Bytes', made => {
     const isShown = made.getAttribute('aria-pressed') === 'true';
     made.setAttribute('aria-pressed', String(!isShown));
@@ -95,21 +103,25 @@ function viewBar(tree, sides) {
     else sides.append(bytesView(tree));
   }, 'show-bytes');
   toggle.setAttribute('aria-pressed', 'false');
-  const open = button(openLabel(tree), made => openMore(tree, made), 'open-all');
+  const open = button(openLabel(tree), made => openMore(tree, made, owner), 'open-all');
   const shut = button('Close all', () => closeAll(tree));
-  return element('div', 'bar', '', open, shut, toggle,
-    element('small', '', 'Select an item to mark its bytes.'));
+  for (const made of [toggle, open, shut]) labelled(made, made.textContent, owner);
+  return element('div', 'bar', '', open, shut, toggle, element('small', '',
+    'Select an item, or go to it by the arrow keys, to mark its bytes.'));
 }
 // A message, or bytes that are none: its skeleton, its tree, and where it stops being items.
-function drawMessage(message) {
+function drawMessage(message, owner) {
   const { bytes } = message, fault = faultOf(bytes), tree = treeOf(bytes, fault.at);
   const isOne = message.isWhole || (tree && tree.listing.ends[0] === tree.listing.lines.length);
   const isItem = !fault.why && isOne;
-  const made = element('div', 'message', '', titleBar(message), copyBar(message, isItem));
+  const made = element('div', 'message', '', titleBar(message),
+    copyBar(message, owner, isItem));
   made.append(drawSkeleton(bytes));
   if (tree) {
     const sides = element('div', 'sides', '', tree);
-    made.append(viewBar(tree, sides), sides);
+    tree.setAttribute('role', 'group');
+    tree.setAttribute('aria-label', 'Items, ' + owner);
+    made.append(viewBar(tree, sides, owner), sides);
     listRest(tree.listing, sides);
   }
   if (isItem) made.append(jsonFold(bytes));
@@ -133,18 +145,19 @@ function drawSkeleton(bytes) {
   return made;
 }
 // What a row has at a side: a message, or why there is none.
-function drawSide(row, side) {
+function drawSide(row, side, number) {
   const message = row[side], name = side === 'sent' ? 'Sent' : 'Received';
   if (!message) return element('p', 'dim', 'Nothing was ' + side + '.');
   if (message.call) {
-    return element('p', 'dim', name + ': the record has no bytes of the call ' + message.call);
+    const why = ': the record has no bytes of the call ';
+    return element('p', 'dim', name + why + message.call.words);
   }
   if (message.damaged) {
     const place = name + ', ' + message.unit + ' ' + message.line;
     return element('p', 'bad', place + ', is left out: ' + message.damaged + '.');
   }
   try {
-    return drawMessage(message);
+    return drawMessage(message, side + ' ' + number);
   } catch (error) {
     return element('p', 'bad error', name + ': ' + reasonOf(error));
   }

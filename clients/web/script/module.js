@@ -103,3 +103,41 @@ async function inSlices(name, step) {
   }
 }
 const stopAll = () => begun.clear();
+
+// Steps are a generator, which yields where the page may be drawn in between, and returns what was
+// made. They are run at once, or in turns with the page while they are wanted.
+const TURN = 60; // milliseconds
+const EVERY = 512; // small things that are done between two yields
+function atOnce(steps) {
+  for (;;) {
+    const { done, value } = steps.next();
+    if (done) return value;
+  }
+}
+async function inTurns(steps, isWanted, look = () => {}) {
+  for (;;) {
+    const end = performance.now() + TURN;
+    do {
+      const { done, value } = steps.next();
+      if (done) return value;
+      if (value) look(value);
+    } while (performance.now() < end);
+    await pause();
+    if (!isWanted()) return null;
+  }
+}
+// Yields what is made meanwhile, where that may be looked at before it is whole.
+function* each(list, run, made) {
+  for (let i = 0; i < list.length; i++) {
+    run(list[i], i);
+    if (i % EVERY === EVERY - 1) yield made;
+  }
+}
+// Whether one of a list is so.
+function* someOf(list, isSo) {
+  for (let i = 0; i < list.length; i++) {
+    if (isSo(list[i])) return true;
+    if (i % EVERY === EVERY - 1) yield;
+  }
+  return false;
+}

@@ -6,14 +6,17 @@ const HEAD = 8;
 
 // Cuts chunks into messages by their heads. Where a chunk begins as a message does, one that is
 // not whole yet ends there; any other chunk goes on with it.
-function messagesOf(chunks) {
+function* messagesOf(chunks) {
   const state = { found: [], open: {}, at: { sent: 0, received: 0 }, session: 0 };
-  chunks.forEach((chunk, order) => addChunk(state, { ...chunk, order }));
+  for (let order = 0; order < chunks.length; order++) {
+    yield* addChunk(state, chunks[order], order);
+    if (order % EVERY === 0) yield;
+  }
   closeBoth(state);
   return state.found.sort((a, b) => a.order - b.order);
 }
-function addChunk(state, chunk) {
-  const { side, bytes, line, unit, order, damaged, call } = chunk;
+function* addChunk(state, chunk, order) {
+  const { side, bytes, line, unit, damaged, call } = chunk;
   if (chunk.begins) {
     closeBoth(state);
     state.session++;
@@ -30,7 +33,7 @@ function addChunk(state, chunk) {
     else state.open[side] = made;
   }
   state.at[side] += bytes.length;
-  cut(state, side);
+  yield* cut(state, side);
 }
 function addMessage(state, { side, from, line, unit, order }, bytes, more) {
   state.found.push({ side, from, line, unit, order, bytes, session: state.session, ...more });
@@ -43,8 +46,10 @@ function close(state, side) {
 function closeBoth(state) {
   for (const side of SIDES) close(state, side);
 }
-function cut(state, side) {
+function* cut(state, side) {
+  let count = 0;
   for (let open = state.open[side]; open && open.size >= open.need; open = state.open[side]) {
+    if (++count % EVERY === 0) yield;
     const bytes = together(open), size = sizeByHead(bytes);
     if (size < 0) open.need = Infinity;
     else if (size > bytes.length) open.need = size;
@@ -73,16 +78,19 @@ function together(open) {
 // those that were sent stand with those that were received after them, before more was sent:
 // one by one, and where fewer were received, with the last ones. A stream whose order is known
 // goes by places, and by its order where a message of it is damaged.
-function rowsOf(messages, pairing) {
-  const sessions = new Map();
+function* rowsOf(messages, pairing) {
+  const sessions = new Map(), rows = [];
   for (const message of messages) {
     if (!sessions.has(message.session)) sessions.set(message.session, []);
     sessions.get(message.session).push(message);
   }
-  return [...sessions.values()].flatMap(session => {
+  for (const session of sessions.values()) {
     const isByOrder = pairing === BY_ORDER || (pairing === BY_STREAM && isDamaged(session));
-    return isByOrder ? byOrder(session) : byPlaces(session, 0);
-  });
+    if (isByOrder) yield* byOrder(session, rows);
+    else for (const row of byPlaces(session, 0)) rows.push(row);
+    yield;
+  }
+  return rows;
 }
 function isDamaged(messages) {
   const last = SIDES.map(side => messages.findLast(message => message.side === side));
@@ -95,21 +103,23 @@ function byPlaces(messages, skipped) {
   const rowAt = i => ({ sent: sent[i] || null, received: received[i - skipped] || null });
   return Array.from({ length: count }, (_, i) => rowAt(i));
 }
-function byOrder(messages) {
+function* byOrder(messages, rows) {
   const blocks = [];
   for (const message of messages) {
     const last = blocks.at(-1);
     if (!last || (message.side === 'sent' && last.at(-1).side !== 'sent')) blocks.push([message]);
     else last.push(message);
   }
-  return blocks.flatMap(block => {
+  yield;
+  yield* each(blocks, block => {
     const more = ofSide(block, 'sent').length - ofSide(block, 'received').length;
-    return byPlaces(block, more > 0 && more < block.length ? more : 0);
+    rows.push(...byPlaces(block, more > 0 && more < block.length ? more : 0));
   });
 }
 // A capture or a dump does not say who is the client: where what was sent begins as a response
 // does, and what was received does not, the sides are the other way round.
 function turned(made) {
+  giveBytes(made);
   const first = side => ofSide(made.chunks, side).find(({ bytes }) => bytes.length)?.bytes || NONE;
   const isTurned = beginsMessage(first('sent'), 0x7b) && !beginsMessage(first('received'), 0x7b);
   if (!isTurned) return made;

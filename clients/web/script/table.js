@@ -1,10 +1,13 @@
 // The table of exchanges, or of the messages of one side.
 const ROWS = 100; // that are drawn at once
-const COLUMNS_OF = ['#', 'Operation', 'Object', 'Outcome', 'Time'];
-const table = { rows: [], opened: new Map(), body: null };
+const COLUMNS_OF = ['#', 'Operation', 'Object', 'Result', 'Matched reading', 'Time'];
+const classOf = head => head.toLowerCase().replace('#', 'number').split(' ')[0];
+const table = { rows: [], opened: new Map(), words: '', body: null };
 
-function drawTable(rows) {
-  Object.assign(table, { rows, opened: new Map(), body: element('tbody') });
+// With more rows than before, what was opened stays open, and what is searched for stays too.
+function drawTable(rows, isRest) {
+  const opened = isRest ? table.opened : new Map(), words = isRest ? table.words : '';
+  Object.assign(table, { rows, opened, words, body: element('tbody') });
   const heads = COLUMNS_OF.map(name => {
     const made = element('th', '', name);
     made.scope = 'col';
@@ -13,17 +16,18 @@ function drawTable(rows) {
   const head = roleOf(element('tr', '', '', ...heads), 'row');
   const made = element('table', '', '', element('thead', '', '', head), table.body);
   for (const group of [made.tHead, table.body]) roleOf(group, 'rowgroup');
-  $('out').append(searchBar(), element('p', 'found'), roleOf(made, 'table'));
-  find('');
+  $('out').append(searchBar(words), element('p', 'found'), roleOf(made, 'table'));
+  find(words);
 }
 function roleOf(made, role) { // which the styles of narrow screens would take away
   made.setAttribute('role', role);
   return made;
 }
-function searchBar() {
+function searchBar(words) {
   const made = element('input');
   made.type = 'search';
-  made.placeholder = 'search: #12, Get, key-1, failed, a tag, a value';
+  made.value = words;
+  made.placeholder = 'search: #12, Get, key-1, OperationFailed, a tag, a value';
   made.setAttribute('aria-label', 'Search the rows');
   made.oninput = () => find(made.value);
   return made;
@@ -33,6 +37,7 @@ function searchBar() {
 // the row shows, of names and numbers of tags, or of a value that is not hidden.
 function find(text) {
   const words = text.toLowerCase().split(/\s+/).filter(Boolean);
+  table.words = text;
   const state = { words, next: 0, found: 0, room: ROWS };
   table.body.replaceChildren();
   run(state);
@@ -64,8 +69,10 @@ function lookAt(state) {
 }
 function hasWords(i, words) {
   if (!words.length) return true;
-  const { operation, about, outcome, time, call, words: inside } = rowFacts(table.rows[i]);
-  const shown = ['#' + (i + 1), operation, about, outcome, time, call].join('\n').toLowerCase();
+  const { words: inside, ...facts } = rowFacts(table.rows[i]);
+  const { operation, about, result, verdict, time, call } = facts;
+  const shown = ['#' + (i + 1), operation, about, result, verdict, time, call].join('\n')
+    .toLowerCase();
   return words.every(word => (/^#\d+$/.test(word) ? word === '#' + (i + 1)
     : shown.includes(word) || inside.includes(word)));
 }
@@ -90,19 +97,15 @@ function said(state, isOver) {
 
 // A row, and below it what was opened of it.
 function rowOfTable(i) {
-  const facts = rowFacts(table.rows[i]), { operation, about, outcome, time, call, isGood } = facts;
+  const { operation, about, result, mood, verdict, time } = rowFacts(table.rows[i]);
   const made = roleOf(element('tr', 'exchange'), 'row'), opened = table.opened.get(i);
   const open = button('#' + (i + 1), () => toggle(i, made, open));
   open.setAttribute('aria-expanded', String(Boolean(opened)));
-  open.setAttribute('aria-label', ['#' + (i + 1), operation, about, outcome].join(' '));
-  const cells = [open, element('b', '', operation || (call ? call.split(' ')[0] : '')),
-    textOf(about || call.split(' ').slice(1).join(' ')),
-    element('span', isGood ? 'good' : 'bad', outcome), element('span', 'time', time)];
-  made.append(...cells.map((inside, at) => {
-    const cell = roleOf(element('td', COLUMNS_OF[at].toLowerCase().replace('#', 'number')), 'cell');
-    cell.append(inside);
-    return cell;
-  }));
+  open.setAttribute('aria-label', ['#' + (i + 1), operation, about, result].join(' '));
+  const cells = [open, element('b', '', operation), textOf(about), element('span', mood, result),
+    element('span', 'verdict', verdict), element('span', 'time', time)];
+  made.append(...cells.map((inside, at) =>
+    roleOf(element('td', classOf(COLUMNS_OF[at]), '', inside), 'cell')));
   made.onclick = () => {
     if (getSelection().isCollapsed) toggle(i, made, open);
   };
@@ -114,15 +117,19 @@ function toggle(i, made, open) {
     opened.remove();
     table.opened.delete(i);
   } else {
-    const shown = openedRow(table.rows[i]);
+    const shown = openedRow(table.rows[i], '#' + (i + 1));
     table.opened.set(i, shown);
     made.after(shown);
   }
   open.setAttribute('aria-expanded', String(!opened));
 }
-function openedRow(row) {
-  const cell = roleOf(element('td'), 'cell');
+function openedRow(row, number) {
+  const cell = roleOf(element('td'), 'cell'), { verdict } = rowFacts(row);
   cell.colSpan = COLUMNS_OF.length;
-  for (const side of SIDES) if (row.isPaired || row[side]) cell.append(drawSide(row, side));
+  if (verdict) {
+    const text = 'Matched reading: ' + verdict + ': ' + meaningOf(verdict) + '.';
+    cell.append(element('p', 'dim meaning', text));
+  }
+  for (const side of SIDES) if (row.isPaired || row[side]) cell.append(drawSide(row, side, number));
   return roleOf(element('tr', 'opened', '', cell), 'row');
 }

@@ -8,7 +8,26 @@ const BY_PLACES = 'places', BY_ORDER = 'order', BY_STREAM = 'stream';
 const MESSAGE = /^4200(?:78|7b)01/i; // how a Request Message or a Response Message begins
 
 function reading(form, pairing) {
-  return { form, pairing, chunks: [], left: [], others: 0, notes: [], unit: 'line' };
+  return { form, pairing, chunks: [], left: [], others: 0, notes: [], unit: 'line',
+    sides: new Set(), waiting: [], room: DIGITS };
+}
+// Digits of many lines are handed to the module together; the chunks wait for their bytes.
+const DIGITS = 1 << 18;
+function handDigits(made, chunk, digits) {
+  made.chunks.push(chunk);
+  made.waiting.push({ chunk, digits });
+  made.room -= digits.length;
+  if (made.room < 0) giveBytes(made);
+}
+function giveBytes(made) {
+  if (!made.waiting.length) return;
+  const bytes = decoded(made.waiting.map(({ digits }) => digits).join(''));
+  let at = 0;
+  for (const { chunk, digits } of made.waiting) {
+    chunk.bytes = bytes.subarray(at, at + digits.length / 2);
+    at += digits.length / 2;
+  }
+  Object.assign(made, { waiting: [], room: DIGITS });
 }
 // Hex digits with gaps between them, and why they are no bytes, if so.
 const IS_GAP = new Uint8Array(256);
@@ -28,12 +47,14 @@ function whyNoHex(digits) {
 const sideOf = digits => (/^420078/.test(digits) ? 'sent' : 'received');
 
 // A chunk of a line that says its side.
+const IS_HEX = /^[0-9a-f]+$/i;
 function addLine(made, side, text, line) {
-  const digits = digitsOf(text), why = whyNoHex(digits);
+  const isPlain = text.length % 2 === 0 && IS_HEX.test(text);
+  const digits = isPlain ? text : digitsOf(text), why = isPlain ? '' : whyNoHex(digits);
   if (why) {
     made.chunks.push({ side, bytes: NONE, line, damaged: why });
     made.left.push({ line, why });
-  } else made.chunks.push({ side, bytes: decoded(digits), line });
+  } else handDigits(made, { side, bytes: NONE, line }, digits);
 }
 
 // `> 42..` and `< 42..`, with or without a time and other words before the mark. Where words
@@ -46,17 +67,17 @@ function markOf(line) {
 }
 const marks = {
   form: 'a log with lines > and <',
-  fits: lines => lines.some(line => {
+  fits: lines => someOf(lines, line => {
     const mark = markOf(line);
     return mark && !whyNoHex(digitsOf(mark.digits));
   }),
-  read(lines) {
+  * read(lines) {
     const made = reading(this.form, BY_ORDER);
-    lines.forEach((line, i) => {
+    yield* each(lines, (line, i) => {
       const mark = markOf(line);
       if (mark) addLine(made, mark.side, mark.digits, i + 1);
       else if (line.trim()) made.others++;
-    });
+    }, made);
     return made;
   },
 };
@@ -66,6 +87,8 @@ const marks = {
 const CALLS = new Map(Object.entries({ 'query': 2, 'create-rsa': 5, 'rng': 3, 'sign': 4,
   'activate': 3, 'revoke': 3, 'destroy': 3, 'rename': 4, 'get': 3, 'raw': 3,
   'message': 3 }));
+// Which of their other words name an object, where that is not the first one.
+const NAMING = { 'create-rsa': [1, 3], 'query': [0, 0], 'rng': [0, 0] };
 function callOf(line) {
   if (!CALLS.has(line.slice(0, line.indexOf(' ')))) return null;
   const words = line.split(' ');
@@ -76,22 +99,24 @@ function callOf(line) {
 }
 const records = {
   form: 'a script of calls with their recorded responses',
-  fits: lines => lines.some(callOf),
-  read(lines) {
+  fits: lines => someOf(lines, callOf),
+  * read(lines) {
     const made = reading(this.form, BY_ORDER);
-    lines.forEach((line, i) => {
+    yield* each(lines, (line, i) => {
       const call = callOf(line);
       if (call) addCall(made, call, i + 1);
       else if (line.trim()) made.left.push({ line: i + 1, why: 'no call with its response' });
-    });
+    }, made);
     return made;
   },
 };
-// The request of a call other than `raw` and `message` is not in the record: its chunk has the words instead.
+// The request of a call other than `raw` and `message` is not in the record: its chunk has the
+// words instead, and which of them name the object.
 function addCall(made, { words, request, response }, line) {
   if (request) addLine(made, 'sent', request, line);
   else {
-    const call = words.slice(0, -1).slice(0, 2).join(' ');
+    const asked = words.slice(0, -1), [name, ...others] = asked, from = NAMING[name] || [0, 1];
+    const call = { name, words: asked.join(' '), about: others.slice(...from).join(', ') };
     made.chunks.push({ side: 'sent', bytes: NONE, line, call });
   }
   if (response !== '-') addLine(made, 'received', response, line);
@@ -103,19 +128,20 @@ const lastOf = line => (line.includes('4200') ? LAST.exec(line)?.[1] : undefined
 const isHex = line => /^(?:0x)?[0-9a-f]+$/i.test(line);
 const tails = {
   form: 'lines that end with a message',
-  fits(lines) {
-    const full = lines.filter(line => line.trim()), found = full.map(lastOf);
-    if (!found.some(Boolean)) return false;
-    if (!full.every(isHex)) return true;
-    return found.every(Boolean) && new Set(found.map(sideOf)).size > 1;
+  * fits(lines) {
+    if (!(yield* someOf(lines, lastOf))) return false;
+    const isFull = line => line.trim() !== '', sides = new Set();
+    if (yield* someOf(lines, line => isFull(line) && !isHex(line))) return true;
+    const isOther = line => isFull(line) && !(lastOf(line) && sides.add(sideOf(lastOf(line))));
+    return !(yield* someOf(lines, isOther)) && sides.size > 1;
   },
-  read(lines) {
+  * read(lines) {
     const made = reading(this.form, BY_ORDER);
-    lines.forEach((line, i) => {
+    yield* each(lines, (line, i) => {
       const digits = lastOf(line);
       if (digits) addLine(made, sideOf(digits), digits, i + 1);
       else if (line.trim()) made.others++;
-    });
+    }, made);
     return made;
   },
 };
@@ -123,16 +149,18 @@ const tails = {
 // The script of `kmip_run audit`: all that was sent, and all that was received, `-` for nothing.
 const audit = {
   form: 'a script of kmip_run audit',
-  fits(lines) {
-    const full = lines.filter(line => line.trim());
+  * fits(lines) {
+    const full = [];
+    const isMore = line => line.trim() && full.push(line) > 2;
+    if (yield* someOf(lines, isMore)) return false;
     const isSide = (line, head) => line === '-' || (isHex(line) && line.startsWith(head));
     return full.length === 2 && isSide(full[0], '420078') && isSide(full[1].toUpperCase(), '42007B')
       && full.some(line => line !== '-');
   },
-  read(lines) {
+  * read(lines) {
     const made = reading(this.form, BY_PLACES);
     let next = 0;
-    lines.forEach((line, i) => {
+    yield* each(lines, (line, i) => {
       if (!line.trim()) return;
       const side = SIDES[next++];
       if (line !== '-') addLine(made, side, line, i + 1);
@@ -146,13 +174,15 @@ const audit = {
 const HEADER = /^(?:=+|Follow: .*|Filter: .*|Node \d: .*)$/;
 const RAW = /^(\t?)([0-9a-f]+)$/i;
 const followed = {
-  form: "tshark's follow,tcp,raw",
-  fits: lines => lines.some(line => /^Follow: \w+,raw$/.test(line))
-    || (lines.some(line => /^\t[0-9a-f]{8,}$/i.test(line))
-      && lines.every(line => !line || RAW.test(line))),
-  read(lines) {
+  form: "tshark's follow,tcp,raw or follow,tls,raw",
+  * fits(lines) {
+    if (yield* someOf(lines, line => /^Follow: \w+,raw$/.test(line))) return true;
+    return (yield* someOf(lines, line => /^\t[0-9a-f]{8,}$/i.test(line)))
+      && !(yield* someOf(lines, line => line && !RAW.test(line)));
+  },
+  * read(lines) {
     const made = reading(this.form, BY_STREAM);
-    lines.forEach((line, i) => {
+    yield* each(lines, (line, i) => {
       const found = RAW.exec(line);
       if (found) addLine(made, SIDES[found[1] ? 1 : 0], found[2], i + 1);
       else if (HEADER.test(line)) made.others++;
@@ -167,8 +197,9 @@ const ARRAY = /([A-Za-z_]\w*)?\s*(?:\[[^\]]*\])?\s*=?\s*\{([^{}]*)\}/g;
 const lineAt = (text, at) => text.slice(0, at).split('\n').length;
 const arrays = {
   form: 'arrays of C',
-  fits: lines => lines.some(line => /0x[0-9a-f]{1,2}u?\s*,\s*(?:0x|$)/i.test(line)),
-  read(lines) {
+  fits: lines => someOf(lines, line => /0x[0-9a-f]{1,2}u?\s*,\s*(?:0x|$)/i.test(line)),
+  * read(lines) {
+    yield;
     const made = reading(this.form, BY_STREAM), blank = comment => comment.replace(/[^\n]/g, ' ');
     const text = lines.join('\n').replace(/\/\*[\s\S]*?\*\/|\/\/.*/g, blank);
     const found = [...text.matchAll(ARRAY)];
@@ -193,13 +224,15 @@ const ODD_GROUP = /(?:^|[\s:,])(?:[^\s:,]{2})*[^\s:,](?:[\s:,]|$)/;
 const hex = {
   form: 'hex',
   digits: '',
-  fits(lines) {
+  * fits(lines) {
+    yield;
     const text = lines.join('\n').trim();
     this.digits = digitsOf(text);
     if (/[^0-9a-f\s:,x]/i.test(text) || whyNoHex(this.digits)) return false;
     return !/[ \t:,]/.test(text) || !ODD_GROUP.test(text);
   },
-  read() {
+  * read() {
+    yield;
     const made = reading(this.form, BY_PLACES);
     made.chunks.push({ side: null, bytes: decoded(this.digits), line: 1 });
     this.digits = '';
@@ -215,8 +248,12 @@ const base64 = {
     const bytes = decoded(text);
     return bytes?.length >= 8 && bytes[3] >= 1 && bytes[3] <= 10 ? bytes : null;
   },
-  fits(lines) { return this.bytes(lines) !== null; },
-  read(lines) {
+  * fits(lines) {
+    yield;
+    return this.bytes(lines) !== null;
+  },
+  * read(lines) {
+    yield;
     const made = reading(this.form, BY_PLACES);
     made.chunks.push({ side: null, bytes: this.bytes(lines), line: 1 });
     return made;
@@ -238,10 +275,39 @@ const NAMED = () => [
 ];
 const FORMS = () => [marks, followed, packets, dumps, records, audit, tails, arrays, hex, base64];
 
-function readText(text) {
-  const lines = text.replace(/^\ufeff/, '').split(/\r?\n/);
-  for (const form of FORMS()) if (form.fits(lines)) return form.read(lines);
-  const named = NAMED().find(([begins]) => begins.test(text.slice(0, 4096)));
+// The lines of a text that comes in parts.
+function* linesIn(parts) {
+  const lines = [];
+  let rest = '';
+  for (const part of parts) {
+    const found = (rest + part).split(/\r?\n/);
+    rest = found.pop();
+    for (const line of found) lines.push(line);
+    yield;
+  }
+  lines.push(rest);
+  return lines;
+}
+const SLICED = 1 << 19; // characters or bytes of a text that are taken at once
+function* partsOfText(text) {
+  const from = text.startsWith('\ufeff') ? 1 : 0;
+  for (let at = from; at < text.length; at += SLICED) yield text.slice(at, at + SLICED);
+}
+const readText = text => readLines(partsOfText(text));
+function* readLines(parts) {
+  const lines = yield* linesIn(parts);
+  if (!(yield* someOf(lines, line => line.trim()))) {
+    throw new Error('It has nothing but white space.');
+  }
+  for (const form of FORMS()) {
+    if (yield* form.fits(lines)) {
+      const made = yield* form.read(lines);
+      giveBytes(made);
+      return made;
+    }
+  }
+  const begins = lines.slice(0, 4096).join('\n').slice(0, 4096);
+  const named = NAMED().find(([head]) => head.test(begins));
   throw new Error(named ? 'This is ' + named[1] + '.'
     : 'This is no hex, no base64, and no log, dump or script of them.' + firstReason(lines));
 }

@@ -54,13 +54,14 @@ function moreButton(into, listing, owner, from) {
 function rowOfTree(listing, i) {
   if (!isStructure(listing.lines[i])) {
     const row = element('div', 'row', '', ...rowParts(listing, i));
-    row.tabIndex = -1;
+    row.tabIndex = -1; // the arrows go there
     row.line = i;
     return row;
   }
   const inside = element('div'), summary = element('summary', '', '', ...rowParts(listing, i));
   const details = element('details', '', '', summary, inside);
   summary.line = i;
+  summary.tabIndex = i ? -1 : 0;
   details.fill = () => {
     if (details.isDrawn) return;
     details.isDrawn = true;
@@ -83,21 +84,35 @@ function treeOf(bytes, end) {
   for (const name of ['click', 'focusin']) {
     made.addEventListener(name, event => {
       const row = event.target.closest('.row, summary');
-      if (row && made.contains(row)) listing.mark?.(row.line);
+      if (!row || !made.contains(row)) return;
+      made.querySelector('[tabindex="0"]')?.setAttribute('tabindex', '-1');
+      row.tabIndex = 0; // the one place where Tab enters the tree
+      listing.mark?.(row.line);
     });
   }
   made.addEventListener('keydown', event => moveFocus(made, event));
   return made;
 }
-// The arrows go from row to row of what is open.
+// The arrows, Home and End go from row to row of what is open; Right opens a structure, and Left
+// closes it, or goes to the one around an item.
+const STEPS = { ArrowDown: 1, ArrowUp: -1, Home: -Infinity, End: Infinity };
 function moveFocus(tree, event) {
-  const step = { ArrowDown: 1, ArrowUp: -1 }[event.key];
-  if (!step || event.target.closest('button')) return;
-  const rows = [...tree.querySelectorAll('.row, summary')].filter(row => row.checkVisibility());
-  const next = rows[rows.indexOf(event.target.closest('.row, summary')) + step];
-  if (!next) return;
+  const row = event.target.closest('.row, summary');
+  if (!row || event.target.closest('button') || event.altKey || event.ctrlKey) return;
+  const details = row.localName === 'summary' ? row.parentNode : null;
+  let next = null;
+  if (event.key in STEPS) next = rowAfter(tree, row, STEPS[event.key]);
+  else if (event.key === 'ArrowRight' && details) details.open = true;
+  else if (event.key !== 'ArrowLeft') return;
+  else if (details?.open) details.open = false;
+  else next = row.parentNode.closest('.tree details > div')?.parentNode.firstChild;
   event.preventDefault();
-  next.focus();
+  next?.focus();
+}
+function rowAfter(tree, row, step) {
+  const rows = [...tree.querySelectorAll('.row, summary')].filter(other => other.checkVisibility());
+  const at = rows.indexOf(row) + step;
+  return rows[Math.min(Math.max(at, 0), rows.length - 1)];
 }
 // Lists the rest of a long message while the page stays in use.
 async function listRest(listing, made) {
@@ -119,12 +134,12 @@ async function listRest(listing, made) {
 }
 
 // Opens closed structures and draws what "more" stands for, as many items as are opened at once.
-function openMore(tree, made) {
+function openMore(tree, made, owner) {
   let left = OPENED;
   const step = () => {
     const next = tree.querySelector('details:not([open]), .more');
     if (!next || left <= 0) {
-      made.textContent = next ? openLabel(tree) : 'Open all';
+      labelled(made, next ? openLabel(tree) : 'Open all', owner);
       return false;
     }
     left -= openOne(next);

@@ -5,6 +5,7 @@ const path = require('path');
 const { until } = require('./driver.js'), { newHarness, seen } = require('./harness.js');
 const { exports: exported } = require('./exports.js'), { inputs } = require('./inputs.js');
 const { given } = require('./given.js'), { reading } = require('./reading.js');
+const { rows } = require('./rows.js');
 const { large } = require('./large.js'), { policy } = require('./policy.js');
 const { memory } = require('./memory.js'), { screens } = require('./screens.js');
 
@@ -18,7 +19,7 @@ async function onePage(harness, isProved, shots) {
     state.includes('by proved code') === isProved, state);
   page.requests.length = 0;
   page.said.length = 0;
-  for (const run of [exported, inputs, given, reading, large]) await run(harness, page);
+  for (const run of [exported, inputs, given, reading, rows, large]) await run(harness, page);
   // Firefox draws its own fields with fonts of data:, and a file is saved from blob:
   const requests = page.requests.filter(address => !/^(?:data|blob):/.test(address));
   verdict('no request was made', requests.length === 0, requests);

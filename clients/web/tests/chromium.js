@@ -90,7 +90,8 @@ function onPage(page, to, command) {
     },
   };
 }
-const KEYS = { Enter: 13, ArrowDown: 40, ArrowUp: 38, Tab: 9 };
+const KEYS = { Enter: 13, ArrowDown: 40, ArrowUp: 38, ArrowLeft: 37, ArrowRight: 39, End: 35,
+  Home: 36, Tab: 9 };
 function onScreen(to) {
   const mouse = (type, [x, y], more) => to('Input.dispatchMouseEvent',
     { type, x, y, button: 'left', clickCount: 1, ...more });

@@ -55,7 +55,7 @@ async function reports({ verdict, native, file }, page) {
   const rows = await page.call(seen.rows);
   const want = report.slice(0, 120).filter((_, i) => i % 3 === 0);
   verdict('the rows are the entries of the native report', report.length === 123
-    && rows.length === 40 && rows.every((row, i) => row[0] + ' ' + row[3] === want[i]),
+    && rows.length === 40 && rows.every((row, i) => row[0] + ' ' + row[4] === want[i]),
       rows.slice(0, 3));
   await page.call(seen.click, 'tr.exchange');
   const skeletons = await page.call(() => [...document.querySelectorAll('.skeleton')]

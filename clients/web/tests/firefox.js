@@ -67,7 +67,8 @@ async function launch(program) {
   });
 }
 const CONTROL = '\uE009';
-const KEYS = { Enter: '\uE007', Tab: '\uE004', ArrowDown: '\uE015', ArrowUp: '\uE013' };
+const KEYS = { Enter: '\uE007', Tab: '\uE004', ArrowDown: '\uE015', ArrowUp: '\uE013',
+  ArrowLeft: '\uE012', ArrowRight: '\uE014', Home: '\uE011', End: '\uE010' };
 function keysOf({ send, context }) {
   const perform = actions => send('input.performActions',
     { context, actions: [{ type: 'key', id: 'keyboard', actions }] });

@@ -35,7 +35,7 @@ const seen = {
   left: () => document.getElementById('left').innerText,
   shown: () => document.getElementById('out').innerText,
   clear() { document.getElementById('clear').click(); },
-  give(side, text) { takeText(side, text, false); },
+  give: (side, text) => takeText(side, text, false),
   // The rows, once all that are asked for are drawn.
   async rows() {
     while (begun.has(table)) await pause();
@@ -51,7 +51,7 @@ const seen = {
   show(sent, received) {
     document.getElementById('clear').click();
     [sent, received].forEach((bytes, i) => {
-      if (bytes) put(SIDES[i], ask(SIDES[i]), readGiven(bytes), '');
+      if (bytes) put(SIDES[i], ask(SIDES[i]), atOnce(readOrSay(readGiven(bytes))), '');
     });
   },
 };

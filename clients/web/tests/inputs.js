@@ -38,6 +38,7 @@ const both = {
   'messages, one a line': [request, response, second, answer]
     .map(message => hexOf(message) + '\n').join(''),
   "tshark's follow,tcp,raw": forms.followedRaw(parts),
+  "tshark's follow,tls,raw": forms.followedRaw(parts).replace('tcp,raw', 'tls,raw'),
   'the same without its header': parts
     .map(([at, message]) => (at ? '\t' : '') + hexOf(message)).join('\n'),
   'the same, where the server stands first':
@@ -87,7 +88,7 @@ async function texts({ verdict }, page) {
       await page.call(seen.clear);
       await page.call(seen.give, side, text);
       const got = sidesOf(await page.call(seen.chunks)), rows = await page.call(seen.rows);
-      const words = rows.map(row => row[3]).join();
+      const words = rows.map(row => row[4]).join();
       verdict(`${name}, in the field ${side}`, String(got) === String(bothSides)
         && words === 'answered Get,answered Destroy', [got, words, await page.call(seen.summary)]);
     }
@@ -126,12 +127,12 @@ async function damages({ verdict }, page) {
   const outcomes = async text => {
     await page.call(seen.clear);
     await page.call(seen.give, 'sent', text);
-    return (await page.call(seen.rows)).map(row => row[3]);
+    return (await page.call(seen.rows)).map(row => row[3] + ' ' + row[4]);
   };
   const whole = await outcomes(lines.join('\n')), changed = (at, other) =>
     lines.map((line, i) => (i === at ? other : line)).join('\n');
   verdict('a whole log has its 20 exchanges', whole.length === 20
-    && whole.every(outcome => /^(answered|failed)/.test(outcome)), whole);
+    && whole.every(words => /^(Success answered|OperationFailed: \w+ failed)/.test(words)), whole);
   const isKept = (got, at, words) => got.length === 20 && got.every((outcome, i) =>
     (i === at ? outcome.includes(words) : outcome === whole[i]));
   const torn = await outcomes(changed(6, lines[6].slice(0, -3)));
@@ -180,7 +181,7 @@ async function records({ verdict }, page) {
   await page.call(seen.give, 'received', script);
   const rows = await page.call(seen.rows), left = await page.call(seen.left);
   verdict("a record of typed and raw calls is read", rows.length === 2 && rows[0][1] === 'Get'
-    && rows[0][2] === 'key-1' && rows[0][3] === 'Success' && rows[1][3] === 'answered Destroy',
+    && rows[0][2] === 'key-1' && rows[0][3] === 'Success' && rows[1][4] === 'answered Destroy',
       rows);
   verdict('a call without a response is said', left.includes('line 3: no call'), left);
 }
@@ -229,7 +230,7 @@ async function captured({ verdict, file }, page) {
     await until(page, 10, seen.countOf, 'tr.exchange');
     const got = sidesOf(await page.call(seen.chunks)), rows = await page.call(seen.rows);
     verdict('read: ' + name, String(got) === String(bothSides) && rows.length === 2
-      && rows[1][3] === 'answered Destroy', [got, rows, await page.call(seen.summary)]);
+      && rows[1][4] === 'answered Destroy', [got, rows, await page.call(seen.summary)]);
   }
   await page.call(seen.clear);
   await page.drop('sent', [file('capture', forms.pcap(framed(talk.filter((_, i) => i !== 3))))]);
@@ -237,14 +238,14 @@ async function captured({ verdict, file }, page) {
   const left = await page.call(seen.left), rows = await page.call(seen.rows);
   verdict('a packet that is missing in a capture is said, and costs one row',
     left.includes('50 bytes before this packet are missing')
-    && rows.some(row => row[3] === 'answered Destroy'), [left, rows]);
+    && rows.some(row => row[4] === 'answered Destroy'), [left, rows]);
 }
 
 // Captures that are cut off anywhere, or have a changed byte, are read or said to be wrong.
 async function odd({ verdict }, page) {
   for (const name of ['a pcap file', 'a pcapng file', 'a capture of IPv6']) {
     const wrong = await page.call(bytes => {
-      const outcome = input => readOrSay(() => readGiven(input)).failed || '';
+      const outcome = input => atOnce(readOrSay(readGiven(input))).failed || '';
       const isWrong = text => /memory|undefined|Offset|bounds|not a/.test(text), found = [];
       for (let at = 0; at < bytes.length; at += 7) {
         const changed = bytes.slice();

@@ -1,10 +1,11 @@
 'use strict';
-// Much: 16 MB of exchanges, one message of 16 MB, and a value of 32 million characters. No task of
-// the page may hold it for long, and the first row is there soon.
-const messages = require('./messages.js');
+// Much: 16 MB of exchanges, a log of 50 MB, one message of 16 MB, and a value of 32 million
+// characters. No task of the page may hold it for long, and the first row is there soon.
+const messages = require('./messages.js'), { hexOf } = require('./forms.js');
 const { until } = require('./driver.js'), { seen } = require('./harness.js');
 const LONGEST = 700; // milliseconds that one task may take: a call of the module is one
 const FIRST = 300; // milliseconds to the first row
+const LOG = { size: 50e6, longest: 200, first: 2000 }; // the same of a log
 const LOOP = 1e6, USUAL = 1; // milliseconds that so many turns take where nothing else runs
 
 function turn() {
@@ -83,8 +84,42 @@ async function exchanges({ verdict, native, file }, page) {
   }, '#' + (at + 1));
   const rows = await page.call(seen.rows);
   verdict('a row far down is that of the native report',
-    rows.length === 1 && rows[0][0] + ' ' + rows[0][3] === want, [rows, want]);
+    rows.length === 1 && rows[0][0] + ' ' + rows[0][4] === want, [rows, want]);
   return again;
+}
+// A log of 50 MB, whose first rows are there while the rest is read. What was opened and is
+// searched for by then stays.
+async function logged({ verdict, file }, page) {
+  const front = '2025-11-29 09:00:00,123 DEBUG kmip: ', parts = [];
+  for (let size = 0; size < LOG.size; size += parts.at(-1).length) {
+    const [request, response] = messages.exchange(parts.length + 1, 96);
+    parts.push(`${front}> ${hexOf(request)}\n${front}< ${hexOf(response)}\n`);
+  }
+  const at = file('large.log', parts.join('')), all = parts.length.toLocaleString('en');
+  await page.call(seen.clear);
+  await startWatch(page);
+  await page.choose('sent-file', at);
+  await until(page, 30, seen.countOf, 'tr.exchange');
+  await page.call(() => {
+    window.early = document.getElementById('summary').innerText;
+    const field = document.querySelector('input[type=search]');
+    field.value = 'key-2';
+    field.oninput();
+    document.querySelector('tr.exchange').click();
+  });
+  await until(page, 120, says, all + ' exchanges');
+  const took = await endWatch(page), by = Math.max(stretch.by, slowness());
+  verdict(`a log of 50 MB has its first row after ${took.first} ms${took.words}`,
+    took.first < LOG.first * by, took);
+  verdict(`and no task took more than ${took.longest} ms${took.words}`,
+    took.longest < LOG.longest * by, took);
+  const early = await page.call(() => window.early), rows = await page.call(seen.rows);
+  const field = await page.call(() => document.querySelector('input[type=search]').value);
+  verdict('the first rows are there while the rest is read, and all are at last',
+    early.includes('the rest is being read') && rows.length === 100, [early, rows.length]);
+  verdict('what was searched for and opened meanwhile stays', field === 'key-2'
+    && rows[0][2] === 'key-2' && await page.call(seen.countOf, 'tr.opened .message') === 2,
+      [field, rows[0]]);
 }
 async function searchAll({ verdict }, page) {
   await startWatch(page);
@@ -202,6 +237,7 @@ async function longValue({ verdict }, page) {
 async function large(harness, page) {
   await parts(harness, page);
   await exchanges(harness, page);
+  await logged(harness, page);
   await oneMessage(harness, page);
   await longValue(harness, page);
   await page.call(seen.clear);

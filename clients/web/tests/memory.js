@@ -85,7 +85,7 @@ async function memory(harness) {
     await until(page, 20, seen.isReady);
     await page.call(seen.show, sent, received);
     const rows = await page.call(seen.rows);
-    verdict('kmip32.html runs too', rows.length === 40 && rows[39][3] === 'answered Get', rows[39]);
+    verdict('kmip32.html runs too', rows.length === 40 && rows[39][4] === 'answered Get', rows[39]);
     await capped(harness, page, 'kmip32');
   } else {
     console.log('skipped ' + browser

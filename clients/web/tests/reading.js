@@ -12,16 +12,18 @@ async function tables({ verdict }, page) {
   const rows = await page.call(seen.rows);
   verdict('no skeleton is there before a row is opened',
     await page.call(seen.countOf, '.skeleton') === 0);
-  verdict('a row leads with operation, identifier, outcome and time', String(rows[2])
-    === '#3,Get,key-3,failed ItemNotFound,2025-11-29T00:00:00+00:00', rows[2]);
+  verdict('a row leads with operation, identifier, result, verdict and time', String(rows[2])
+    === '#3,Get,key-3,OperationFailed: ItemNotFound,failed ItemNotFound,2025-11-29T00:00:00+00:00',
+      rows[2]);
   const heads = await page.call(() => [...document.querySelectorAll('th[scope=col]')]
     .map(head => head.textContent));
-  verdict('columns have headers', String(heads) === '#,Operation,Object,Outcome,Time', heads);
+  verdict('columns have headers', String(heads)
+    === '#,Operation,Object,Result,Matched reading,Time', heads);
   await page.call(seen.show, null, received);
   const alone = await page.call(seen.rows);
   verdict('one side alone has operations, identifiers and statuses', alone.length === 40
-    && String(alone[0].slice(1, 4)) === 'Get,key-1,Success'
-    && String(alone[2].slice(1, 4)) === 'Get,,OperationFailed, ItemNotFound', alone.slice(0, 3));
+    && String(alone[0].slice(1, 5)) === 'Get,key-1,Success,'
+    && String(alone[2].slice(1, 5)) === 'Get,,OperationFailed: ItemNotFound,', alone.slice(0, 3));
   await page.call(seen.show, sent, null);
   const asked = await page.call(seen.rows);
   verdict('so has the other', String(asked[1].slice(0, 3)) === '#2,Destroy,key-2', asked[1]);
@@ -44,10 +46,12 @@ const searches = {
   '#12': rows => rows.length === 1 && rows[0][0] === '#12',
   'KEY-12': rows => rows.length === 1 && idOf(rows[0]) === 'key-12',
   'destroy': rows => rows.length > 1 && rows.every(row => row[1] === 'Destroy'),
-  'get notfound': rows => rows.length > 1 && rows.every(row => row[3] === 'failed ItemNotFound'),
-  '42008f': rows => rows.length > 1 && rows.every(row => row[3] === 'answered Get'),
-  'key block aes': rows => rows.length > 1 && rows.every(row => row[3] === 'answered Get'),
-  'no such object': rows => rows.length > 1 && rows.every(row => row[3] === 'failed ItemNotFound'),
+  'get notfound': rows => rows.length > 1 && rows.every(row => row[4] === 'failed ItemNotFound'),
+  'operationfailed': rows => rows.length > 1
+    && rows.every(row => row[3] === 'OperationFailed: ItemNotFound'),
+  '42008f': rows => rows.length > 1 && rows.every(row => row[4] === 'answered Get'),
+  'key block aes': rows => rows.length > 1 && rows.every(row => row[4] === 'answered Get'),
+  'no such object': rows => rows.length > 1 && rows.every(row => row[4] === 'failed ItemNotFound'),
 };
 async function searched({ verdict }, page) {
   await page.call(seen.show, sent, received);
@@ -276,7 +280,7 @@ async function dragged({ verdict }, page) {
   await page.call(seen.show, sent, received);
   await page.call(seen.rows);
   const [from, to] = await page.call(() => {
-    const cell = document.querySelector('tr.exchange .outcome span');
+    const cell = document.querySelector('tr.exchange .result span');
     cell.scrollIntoView({ block: 'center' });
     const { left, right, top, bottom } = cell.getBoundingClientRect(), y = (top + bottom) / 2;
     return [[left + 2, y], [right - 2, y]];
@@ -326,8 +330,8 @@ async function assistive({ verdict }, page) {
     && first.example >= 24 && !/, 0\)$/.test(first.canvas), first);
   await page.call(seen.click, '#example');
   const rows = await page.call(seen.rows);
-  verdict('the example is read', rows.length === 5 && rows[0][3] === 'answered Create'
-    && rows.every(row => /^(answered|failed)/.test(row[3])), rows);
+  verdict('the example is read', rows.length === 5 && rows[0][4] === 'answered Create'
+    && rows.every(row => /^(answered|failed)/.test(row[4])), rows);
   const button = () => ['aria-expanded', 'aria-label']
     .map(name => document.querySelector('tr.exchange button').getAttribute(name));
   const closed = await page.call(button);
@@ -336,7 +340,7 @@ async function assistive({ verdict }, page) {
   await until(page, 10, seen.countOf, 'tr.opened .message');
   const opened = await page.call(button);
   verdict("a row's button says what it opens, and whether it is open", closed[0] === 'false'
-    && opened[0] === 'true' && opened[1] === '#1 Create 5f0c9a3e-backup answered Create',
+    && opened[0] === 'true' && opened[1] === '#1 Create 5f0c9a3e-backup Success',
       [closed, opened]);
   const live = await page.call(() => [...document.querySelectorAll('[aria-live], [role=status]')]
     .map(region => region.id));

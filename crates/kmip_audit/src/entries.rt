@@ -15,7 +15,7 @@ use kmip_request_read::{RequestReadError, from_slice};
 use kmip_wire::{OutOfMemory, Text};
 use std::alloc::Global;
 
-/// The operation of a request; `None` where the bytes are not what a client writes.
+/// The operation of a request; `None` where no matched request has these bytes.
 fn operation_of(alloc: Global, request: &[u8]) -> Result<Option<Operation>, OutOfMemory>
     ensures { IfOk result
         (λ operation.

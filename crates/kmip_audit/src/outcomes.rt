@@ -11,8 +11,7 @@ use std::fmt::{self, Display, Formatter, Write};
 pub enum Outcome {
     /// There is no request, but a response.
     NoRequest,
-    /// The request is not what a client writes: no matched request has these bytes, with any
-    /// credential.
+    /// No matched request has these bytes, with any credential.
     UnreadRequest,
     /// There is no response.
     NoResponse,

@@ -107,8 +107,8 @@ pub extern "C" fn kmip_request(
 /// do not fit, nothing is written.
 ///
 /// The text names the word that is wrong, and says what may stand there, as
-/// `sign: hash=sha384 is none of MD2, MD4, ..`. It shows the call's name and a word that is to be
-/// one of several names, and no word else. After each code nothing is written:
+/// `sign: hash= is none of MD2, MD4, ..`. It shows the call's name, or a first word that
+/// names none, and no word else. After each code nothing is written:
 ///
 /// - -3: the words are a call.
 /// - -5: memory ran out.

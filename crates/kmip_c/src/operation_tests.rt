@@ -332,7 +332,7 @@ const REFUSED: &[(Words, &[u8])] = &[
             id: b"",
             payload: b"{\"tag\":\"RequestPayload\",\n\"value\":[{\"tag\":\"Date\",\"value\":[]}]}",
         },
-        b"the payload: line 2, column 17, value[0].tag: expected the name of a tag, or 0x and six hex digits, found \"Date\"",
+        b"the payload: line 2, column 17, value[0].tag: expected the name of a tag, or 0x and six hex digits, found another string",
     ),
     (
         Words {
@@ -341,7 +341,7 @@ const REFUSED: &[(Words, &[u8])] = &[
             id: b"",
             payload: b"{\"tag\":\"RequestPayload\",\"value\":[{\"tag\":\"UniqueIdentifier\",\"type\":\"TextString\",\"value\":\"\"}]}",
         },
-        b"the payload: a UniqueIdentifier in it is empty",
+        b"the payload: an identifier or an AsynchronousCorrelationValue in it is empty",
     ),
 ];
 

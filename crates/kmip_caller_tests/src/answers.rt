@@ -437,7 +437,7 @@ const OPERATIONS: &[Row] = &[
     Row {
         shows: "a payload that is no JSON",
         words: &["operation", "Encrypt", "@payload.json"],
-        line: "{\"error\":\"GrammarError\",\"text\":\"the payload: line 1, column 1: expected JSON, found a @\"}\n",
+        line: "{\"error\":\"GrammarError\",\"text\":\"the payload: line 1, column 1: expected JSON, found something else\"}\n",
         ..NO_OPERATION
     },
     Row {
@@ -447,7 +447,7 @@ const OPERATIONS: &[Row] = &[
             "Get",
             "{\"tag\":\"RequestPayload\",\"value\":[{\"tag\":\"UniqueIdentifier\",\"type\":\"TextString\",\"value\":\"\"}]}",
         ],
-        line: "{\"error\":\"GrammarError\",\"text\":\"the payload: a UniqueIdentifier in it is empty\"}\n",
+        line: "{\"error\":\"GrammarError\",\"text\":\"the payload: an identifier or an AsynchronousCorrelationValue in it is empty\"}\n",
         ..NO_OPERATION
     },
     Row {
@@ -457,7 +457,37 @@ const OPERATIONS: &[Row] = &[
             "Get",
             "{\"tag\":\"RequestPayload\",\"value\":[{\"tag\":\"UniqueIdentifier\",\"type\":\"TextString\",\"value\":\"k1\"},{\"tag\":\"KeyWrappingSpecification\",\"value\":[{\"tag\":\"WrappingMethod\",\"type\":\"Enumeration\",\"value\":\"Encrypt\"},{\"tag\":\"EncryptionKeyInformation\",\"value\":[{\"tag\":\"UniqueIdentifier\",\"type\":\"TextString\",\"value\":\"\"}]}]}]}",
         ],
-        line: "{\"error\":\"GrammarError\",\"text\":\"the payload: a UniqueIdentifier in it is empty\"}\n",
+        line: "{\"error\":\"GrammarError\",\"text\":\"the payload: an identifier or an AsynchronousCorrelationValue in it is empty\"}\n",
+        ..NO_OPERATION
+    },
+    Row {
+        shows: "an empty identifier of a private key",
+        words: &[
+            "operation",
+            "RekeyKeyPair",
+            "{\"tag\":\"RequestPayload\",\"value\":[{\"tag\":\"PrivateKeyUniqueIdentifier\",\"type\":\"TextString\",\"value\":\"\"}]}",
+        ],
+        line: "{\"error\":\"GrammarError\",\"text\":\"the payload: an identifier or an AsynchronousCorrelationValue in it is empty\"}\n",
+        ..NO_OPERATION
+    },
+    Row {
+        shows: "an empty identifier in a link",
+        words: &[
+            "operation",
+            "AddAttribute",
+            "{\"tag\":\"RequestPayload\",\"value\":[{\"tag\":\"UniqueIdentifier\",\"type\":\"TextString\",\"value\":\"k1\"},{\"tag\":\"Attribute\",\"value\":[{\"tag\":\"AttributeValue\",\"value\":[{\"tag\":\"LinkedObjectIdentifier\",\"type\":\"TextString\",\"value\":\"\"}]}]}]}",
+        ],
+        line: "{\"error\":\"GrammarError\",\"text\":\"the payload: an identifier or an AsynchronousCorrelationValue in it is empty\"}\n",
+        ..NO_OPERATION
+    },
+    Row {
+        shows: "an empty handle",
+        words: &[
+            "operation",
+            "Poll",
+            "{\"tag\":\"RequestPayload\",\"value\":[{\"tag\":\"AsynchronousCorrelationValue\",\"type\":\"ByteString\",\"value\":\"\"}]}",
+        ],
+        line: "{\"error\":\"GrammarError\",\"text\":\"the payload: an identifier or an AsynchronousCorrelationValue in it is empty\"}\n",
         ..NO_OPERATION
     },
     Row {

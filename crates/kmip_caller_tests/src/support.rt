@@ -82,7 +82,7 @@ pub const NO_NUMBER: &str =
     "{\"error\":\"GrammarError\",\"text\":\"rng: N is no number from -2147483648 to 2147483647 in decimal digits\"}\n";
 
 pub const NOT_SIGN: &str =
-    "{\"error\":\"GrammarError\",\"text\":\"sign: hash=SHA3 is none of MD2, MD4, MD5, SHA1, SHA224, SHA256, SHA384, SHA512, RIPEMD160, Tiger, Whirlpool\"}\n";
+    "{\"error\":\"GrammarError\",\"text\":\"sign: hash= is none of MD2, MD4, MD5, SHA1, SHA224, SHA256, SHA384, SHA512, RIPEMD160, Tiger, Whirlpool\"}\n";
 
 pub const OPTION: &str =
     "{\"error\":\"GrammarError\",\"text\":\"an option is out of its place, or there is none of its name\"}\n";

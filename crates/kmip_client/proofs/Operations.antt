@@ -37,7 +37,8 @@ use Rattle.kmip_types.specs.declared.auth.CredentialType.{CredentialType as TheC
 use Rattle.kmip_types.specs.declared.auth.CredentialType.TheVariants.{UsernameAndPassword}
 use Rattle.kmip_client.specs.declared.operation.Version.{Version}
 use Rattle.kmip_client.specs.declared.operation.Version.TheVariants.{V1_0, V1_1, V1_2}
-use Rattle.kmip_client.specs.Operation.{TreeRequest, minor_number, identified_tree, operation_tree, operation_bytes, message_bytes, id_bytes, id_text, id_size, id_len}
+use Rattle.kmip_client.specs.Operation.{TreeRequest, minor_number, identified_tree, operation_tree, operation_bytes}
+use Rattle.kmip_client.specs.Written.{message_bytes, id_bytes, id_text, id_size, id_len}
 use Rattle.kmip_client.specs.WholeMessage.{is_message}
 use Rattle.kmip_client.proofs.WholeMessages.{append_within}
 

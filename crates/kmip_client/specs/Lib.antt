@@ -17,4 +17,5 @@ pub mod Skeletons
 pub use Rattle.kmip_request.specs.Requests
 pub mod Untyped
 pub mod Operation
+pub mod Written
 pub mod WholeMessage

@@ -2,10 +2,8 @@
 use Rattle.std.specs.Prelude.{◌≡◌, ℕ, List, [], ◌∷◌, false, Option, Some, None, Result, option_map}
 use Rattle.kmip_tags.specs.Tags.{BATCH_ITEM, OPERATION, REQUEST_MESSAGE, UNIQUE_BATCH_ITEM_ID}
 use Rattle.kmip_wire.specs.Tree.{Tree, scalar, structure, trees_of, enumeration, byte_string}
-use Rattle.kmip_wire.specs.Bytes.{bytes, structure_bytes, in_order}
 use Rattle.kmip_wire.specs.Parses.{Parses}
 use Rattle.kmip_link.specs.State.{LinkState}
-use Rattle.kmip_shape.specs.Writes.{leaf_text, leaf_size, maybe_len}
 use Rattle.kmip_enums.specs.Operations.{operation_line}
 use Rattle.kmip_enums.specs.declared.operation.Operation.{Operation}
 use Rattle.kmip_types.specs.declared.auth.CredentialType.{CredentialType}
@@ -94,29 +92,3 @@ abbrev pub IsOperationCall : {T : Type 0} → (T → LinkState) → TreeRequest 
     ClientState T → Result Tree Error → Type 0
 IsOperationCall state request before after answer =
     IsCallOf operation_calls state request before after answer
-
--- the bytes of a message, from those of its header and of what follows the operation in its batch
--- item: the word by which the writer is proved
-abbrev pub message_bytes : Option (List ℕ) → ℕ → Option (List ℕ) → Option (List ℕ)
-message_bytes header operation payload =
-    structure_bytes REQUEST_MESSAGE (in_order header (in_order (structure_bytes BATCH_ITEM
-    (in_order (bytes (scalar OPERATION (enumeration operation))) (in_order payload (Some []))))
-    (Some [])))
-
--- the item of a Unique Batch Item ID: its bytes, with none where none is sent; the text that is
--- written, its size, and its length where it has a wire form
-abbrev pub id_bytes : Option (List ℕ) → Option (List ℕ)
-id_bytes None = Some []
-id_bytes (Some id) = bytes (scalar UNIQUE_BATCH_ITEM_ID (byte_string id))
-
-abbrev pub id_text : Option (List ℕ) → List ℕ
-id_text None = []
-id_text (Some id) = leaf_text UNIQUE_BATCH_ITEM_ID (byte_string id)
-
-abbrev pub id_size : Option (List ℕ) → ℕ
-id_size None = 0
-id_size (Some id) = leaf_size (byte_string id)
-
-abbrev pub id_len : Option (List ℕ) → Option ℕ
-id_len None = Some 0
-id_len (Some id) = maybe_len (Some (byte_string id))

@@ -13,9 +13,9 @@ ghost use Rattle.kmip_request.specs.Values.{lent_header_val};
 ghost use Rattle.kmip_client.specs.Headline.{IsReadBy};
 ghost use Rattle.kmip_client.specs.Outcome.{reading_failed, writing_failed};
 ghost use Rattle.kmip_client.specs.Operation.{TreeRequest, operation_calls, minor_number};
-ghost use Rattle.kmip_client.specs.Operation.{id_bytes, id_len, id_size, id_text, message_bytes};
 ghost use Rattle.kmip_client.specs.Operation.{tree_request};
 ghost use Rattle.kmip_client.specs.Untyped.{identified_answer};
+ghost use Rattle.kmip_client.specs.Written.{id_bytes, id_len, id_size, id_text, message_bytes};
 
 use crate::call_request::{CallRequest, ReadsAnswer};
 use crate::error::Error;

@@ -1,5 +1,6 @@
 pub mod TheWords
 pub mod TheLines
+pub mod Told
 pub mod Named
 pub mod Written
 pub mod Back

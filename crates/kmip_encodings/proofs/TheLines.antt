@@ -42,7 +42,7 @@ name_of i d h = get_or-map (λ (l : Line). l.1.1) lines i (0, (0, [])) d (inside
 
 -- ---- one line after the other
 
-rest_at : (i : ℕ) → i < line_count → drop i lines ≡ line_at i ∷ drop (i + 1) lines
+pub rest_at : (i : ℕ) → i < line_count → drop i lines ≡ line_at i ∷ drop (i + 1) lines
 rest_at i h = rw (add-one, drop-cons lines i (0, (0, [])) (inside i h)) refl
 
 pub name_more : (i tag number : ℕ) → i < line_count

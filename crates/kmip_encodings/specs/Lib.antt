@@ -10,6 +10,7 @@ pub mod Sizes
 pub mod Encoding
 pub mod Parts
 pub mod Reading
+pub mod Expected
 pub mod Refusals
 pub mod XmlGrammar
 pub mod Xml

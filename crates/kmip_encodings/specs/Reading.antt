@@ -1,5 +1,5 @@
 -- What a value of JSON means as a tree.
-use Rattle.std.specs.Prelude.{◌≡◌, bit_or, ℕ, zero, suc, ◌+◌, ◌^◌, ◌==◌, ◌&&◌, ◌||◌, nat_lt, nat_le, slice_index, ℤ, pos, negsuc, Bool, true, false, List, [], ◌∷◌, ◌++◌, length, drop, codes, Option, Some, None, IsSomeAnd, Result, Ok, Err, if◌then◌else◌, bytes_eq, unsigned_abs, option_map, option_and_then}
+use Rattle.std.specs.Prelude.{◌≡◌, bit_or, ℕ, zero, suc, ◌+◌, ◌-◌, ◌^◌, ◌==◌, ◌&&◌, ◌||◌, nat_lt, nat_le, slice_index, ℤ, pos, negsuc, Bool, true, false, List, [], ◌∷◌, ◌++◌, length, drop, codes, Option, Some, None, IsSomeAnd, Result, Ok, Err, if◌then◌else◌, bytes_eq, unsigned_abs, option_map, option_and_then}
 use Rattle.std.specs.Int.{w32, w64, from_be_bytes, to_be_bytes, cast_signed, cast_unsigned}
 use Rattle.std.specs.List.{slice_split}
 use Rattle.std.specs.Result.{result_ok}
@@ -7,7 +7,10 @@ use Rattle.std.specs.Fmt.{signed_decimal}
 use Rattle.std.specs.Str.Parse.{signed_digits_value}
 use Rattle.hex.specs.Hex.{decode_of}
 use Rattle.json.specs.Json as json
-use Rattle.json.specs.Json.{Json, Items, Members, document}
+use Rattle.json.specs.Json.{Json, Items, Members, document, max_depth}
+use Rattle.json.specs.Lex.{tokens}
+use Rattle.json.specs.Token as token
+use Rattle.json.specs.Token.{Token}
 use Rattle.json.specs.Find.{get, is_null, as_str, as_array}
 use Rattle.json.specs.Strict.{HasUniqueKeys}
 use Rattle.kmip_wire.specs.declared.kind.Kind.{Kind}
@@ -304,13 +307,33 @@ abbrev pub ReadsItems : Result (List Tree) EncodingError → Read Trees → Type
 ReadsItems (Ok trees) read = read ≡ Ok (trees_of trees)
 ReadsItems (Err e) read = Fails e read
 
+-- how many brackets are open after a token, where so many are before it
+abbrev pub depth_after : ℕ → Token → ℕ
+depth_after depth token.begin_object = depth + 1
+depth_after depth token.end_object = depth - 1
+depth_after depth token.begin_array = depth + 1
+depth_after depth token.end_array = depth - 1
+depth_after depth t = depth
+
+-- whether more brackets than the number are open somewhere among tokens, before which so many are
+abbrev pub opens_past : ℕ → ℕ → List Token → Bool
+opens_past most depth [] = false
+opens_past most depth (t ∷ ts) =
+    nat_lt most (depth_after depth t) || opens_past most (depth_after depth t) ts
+
+-- whether a text of JSON, or one that begins as JSON, nests more than 128 deep
+unfoldable pub is_too_deep : List ℕ → Bool
+is_too_deep text = opens_past max_depth 0 (tokens text)
+
 -- What reading a text returns: the tree that its value means, where it is a text of JSON in which
 -- no object has a name twice; or else why there is none. Memory may run out.
 abbrev pub ReadsText : Result Tree EncodingError → List ℕ → Type 0
 ReadsText (Ok tree) text =
     IsSomeAnd (document text) (λ j. HasUniqueKeys j × (tree_of j ≡ Ok tree))
-ReadsText (Err (errors.NotJson offset)) text = document text ≡ None
-ReadsText (Err (errors.TooDeep offset)) text = document text ≡ None
+ReadsText (Err (errors.NotJson offset)) text =
+    (document text ≡ None) × (is_too_deep text ≡ false)
+ReadsText (Err (errors.TooDeep offset)) text =
+    (document text ≡ None) × (is_too_deep text ≡ true)
 ReadsText (Err errors.RepeatedName) text = IsSomeAnd (document text) (λ j. ¬ HasUniqueKeys j)
 ReadsText (Err (errors.Misfit fault)) text =
     IsSomeAnd (document text) (λ j. HasUniqueKeys j × (tree_of j ≡ Err (misfit_of fault)))

@@ -1,27 +1,79 @@
 //! What stands at a place of a text of JSON, and where that is.
-ghost use Rattle.std.specs.Prelude.{◌<◌};
+ghost use Rattle.std.specs.Prelude.{◌≡◌, ◌≤◌, length, take, filter, option_map};
+ghost use Rattle.std.specs.List.{after_last};
+ghost use Rattle.kmip_encodings.specs.Refusals.{found_words, is_line_feed, begins_character};
+ghost use Rattle.kmip_encodings.specs.Refusals.{line_of, column_of, member_of};
 
 use crate::error::Expected;
 use json::{MAX_DEPTH, Reader, Scratch, Token, Value};
-use kmip_shape::ShowItem;
-use kmip_wire::{Kind, OutOfMemory, Text};
+use kmip_wire::{Kind, OutOfMemory};
 use std::alloc::Global;
-
-/// How many bytes of a text are shown at most.
-const SHOWN: usize = 60;
 
 /// With how many names before it in the same object a name is compared.
 const COMPARED: usize = 64;
 
-/// A part of an item.
-#[derive(Clone, Copy)]
-pub(crate) enum Spot {
-    /// The whole.
-    Item,
-    /// The value of the member with this name, or the item where it has none.
-    Member(&'static str),
-    /// The first member that no item has.
+/// What stands at a place, by its form alone: a value may be a secret.
+#[derive(Clone, Copy, PartialEq, Eq, Debug, Drop)]
+pub enum Found {
+    /// Nothing.
+    Nothing,
+    /// `null`.
+    Null,
+    /// `true` or `false`.
+    Truth,
+    /// A number.
+    Number,
+    /// A number, where another one may stand.
+    OtherNumber,
+    /// A string.
+    String,
+    /// A string, where another one may stand.
+    OtherString,
+    /// An array.
+    Array,
+    /// An object.
+    Object,
+    /// A member that no item has.
     OtherMember,
+    /// A name twice in one object.
+    NameTwice,
+    /// One level more than there may be.
+    DeeperLevel,
+    /// An element.
+    Element,
+    /// The name of an element, where another one may stand.
+    OtherName,
+    /// The value of an attribute, where another one may stand.
+    OtherValue,
+    /// The end of the text.
+    End,
+    /// Anything else.
+    OtherText,
+}
+
+/// What stands there, in words.
+pub(crate) fn found_words(found: Found) -> &'static str
+    ensures { result.now ≡ found_words found }
+{
+    match found {
+        Found::Nothing => "nothing",
+        Found::Null => "null",
+        Found::Truth => "true or false",
+        Found::Number => "a number",
+        Found::OtherNumber => "another number",
+        Found::String => "a string",
+        Found::OtherString => "another string",
+        Found::Array => "an array",
+        Found::Object => "an object",
+        Found::OtherMember => "another member",
+        Found::NameTwice => "one twice",
+        Found::DeeperLevel => "one more, or JSON that nests more than 128 deep",
+        Found::Element => "an element",
+        Found::OtherName => "another name",
+        Found::OtherValue => "another value",
+        Found::End => "the end of the text",
+        Found::OtherText => "something else",
+    }
 }
 
 /// The item at a place, the innermost index first.
@@ -36,85 +88,71 @@ pub(crate) fn is_member(name: &str) -> bool {
     name == "tag" || name == "type" || name == "value" || name == "name"
 }
 
-/// Appends a string in quotes, with the escapes of JSON; or its length, as `a string of 61 bytes`,
-/// where it has more than 60 bytes. It fails only where memory runs out.
-pub fn push_quoted(alloc: Global, out: &mut Text, text: &str) -> Result<(), OutOfMemory> {
-    if text.len() <= SHOWN {
-        return Text::of(alloc, text)?.show_json(alloc, out);
-    }
-    push_length(out, text)
-}
-
-fn push_length(out: &mut Text, text: &str) -> Result<(), OutOfMemory> {
-    out.push_str("a string of ")?;
-    out.push_str(itoa::Buffer::new().format(text.len()))?;
-    out.push_str(" bytes")
-}
-
-/// Appends the form of a value.
-fn push_form(out: &mut Text, value: &Value<'_>) -> Result<(), OutOfMemory> {
-    match value {
-        Value::Null => out.push_str("null"),
-        Value::Bool(true) => out.push_str("true"),
-        Value::Bool(false) => out.push_str("false"),
-        Value::Number(_) => out.push_str("a number"),
-        Value::String(text) => push_length(out, text),
-        Value::Array(_) => out.push_str("an array"),
-        Value::Object(_) => out.push_str("an object"),
-    }
-}
-
-/// Appends a value, or its form where it is long.
-fn push_value(alloc: Global, out: &mut Text, value: &Value<'_>) -> Result<(), OutOfMemory> {
-    match value {
-        Value::Number(text) if text.len() <= SHOWN => out.push_str(text),
-        Value::String(text) => push_quoted(alloc, out, text),
-        _ => push_form(out, value),
-    }
-}
-
-/// Whether a value may be a secret: bytes, a text or the number of a key.
-fn may_be_secret(expected: Expected) -> bool {
+/// The member that is at fault, where one is that items have.
+pub(crate) fn member_of(expected: Expected) -> Option<&'static str>
+    ensures { option_map (λ name. name.now) result ≡ member_of expected }
+{
     match expected {
-        Expected::Value(kind) => {
-            matches!(kind, Kind::ByteString | Kind::TextString | Kind::BigInteger)
-        }
+        Expected::Object | Expected::Members | Expected::FewerLevels => None,
+        Expected::Tag => Some("tag"),
+        Expected::Type => Some("type"),
+        Expected::Value(_) => Some("value"),
+    }
+}
+
+/// Whether a string may stand where this was expected.
+fn takes_strings(expected: Expected) -> bool {
+    match expected {
+        Expected::Object | Expected::Members | Expected::FewerLevels => false,
+        Expected::Tag | Expected::Type => true,
+        Expected::Value(kind) => !matches!(kind, Kind::Structure),
+    }
+}
+
+/// Whether a number may stand where this was expected.
+fn takes_numbers(expected: Expected) -> bool {
+    match expected {
+        Expected::Value(kind) => matches!(
+            kind,
+            Kind::Integer
+                | Kind::LongInteger
+                | Kind::BigInteger
+                | Kind::Enumeration
+                | Kind::Interval
+        ),
         _ => false,
     }
 }
 
-/// Appends the name of the first member that no item has.
-fn push_other_member(alloc: Global, out: &mut Text, item: &Value<'_>) -> Result<(), OutOfMemory> {
-    if let Value::Object(members) = item {
-        for member in members {
-            if !is_member(member.0) {
-                return push_quoted(alloc, out, member.0);
-            }
-        }
+/// The form of a value.
+fn form_of(value: &Value<'_>, expected: Expected) -> Found {
+    match value {
+        Value::Null => Found::Null,
+        Value::Bool(_) => Found::Truth,
+        Value::Number(_) if takes_numbers(expected) => Found::OtherNumber,
+        Value::Number(_) => Found::Number,
+        Value::String(_) if takes_strings(expected) => Found::OtherString,
+        Value::String(_) => Found::String,
+        Value::Array(_) => Found::Array,
+        Value::Object(_) => Found::Object,
     }
-    out.push_str("another")
 }
 
-/// Appends what stands in this part of an item.
-pub(crate) fn push_found(
-    alloc: Global,
-    out: &mut Text,
-    item: Option<&Value<'_>>,
-    spot: Spot,
-    expected: Expected,
-) -> Result<(), OutOfMemory> {
+/// What stands in an item where this was expected.
+pub(crate) fn found_in(item: Option<&Value<'_>>, expected: Expected) -> Found {
     let Some(item) = item else {
-        return out.push_str("nothing");
+        return Found::Nothing;
     };
-    let found = match spot {
-        Spot::Item => Some(item),
-        Spot::Member(name) => item.get(name),
-        Spot::OtherMember => return push_other_member(alloc, out, item),
+    if matches!(expected, Expected::Members) {
+        return Found::OtherMember;
+    }
+    let value = match member_of(expected) {
+        Some(name) => item.get(name),
+        None => Some(item),
     };
-    match found {
-        None => out.push_str("nothing"),
-        Some(value) if may_be_secret(expected) => push_form(out, value),
-        Some(value) => push_value(alloc, out, value),
+    match value {
+        Some(value) => form_of(value, expected),
+        None => Found::Nothing,
     }
 }
 
@@ -185,11 +223,11 @@ fn begin_at(text: &[u8], offset: usize) -> usize {
 }
 
 /// Where a part of the item at a place begins, in bytes.
-pub(crate) fn spot_offset(
+pub(crate) fn fault_offset(
     alloc: Global,
     text: &str,
     place: &[usize],
-    spot: Spot,
+    expected: Expected,
 ) -> Result<usize, OutOfMemory> {
     let mut scratch = Scratch::new(alloc);
     let mut reader = Reader::new(text, &mut scratch)?;
@@ -197,13 +235,16 @@ pub(crate) fn spot_offset(
         return Ok(0);
     }
     let item = reader.offset();
-    let offset = match spot {
-        Spot::Item => item,
-        Spot::Member(name) => match enter(&mut reader, text, name) {
-            Some(()) => reader.offset(),
-            None => item,
-        },
-        Spot::OtherMember => enter_other(&mut reader, text).unwrap_or(item),
+    if matches!(expected, Expected::Members) {
+        let other = enter_other(&mut reader, text).unwrap_or(item);
+        return Ok(begin_at(text.as_bytes(), other));
+    }
+    let Some(name) = member_of(expected) else {
+        return Ok(begin_at(text.as_bytes(), item));
+    };
+    let offset = match enter(&mut reader, text, name) {
+        Some(()) => reader.offset(),
+        None => item,
     };
     Ok(begin_at(text.as_bytes(), offset))
 }
@@ -220,9 +261,8 @@ fn is_among(names: &[&str], first: usize, name: &str) -> bool {
     false
 }
 
-/// Where the second of two equal names of an object begins, and the name; it is not looked for among
-/// many names.
-pub(crate) fn repeated(alloc: Global, text: &str) -> Result<(usize, Option<Text>), OutOfMemory> {
+/// Where the second of two equal names of an object begins; it is not looked for among many names.
+pub(crate) fn repeated(alloc: Global, text: &str) -> Result<usize, OutOfMemory> {
     let mut scratch = Scratch::new(alloc);
     let mut reader = Reader::new(text, &mut scratch)?;
     let mut names: Vec<&str> = Vec::new(alloc);
@@ -235,45 +275,76 @@ pub(crate) fn repeated(alloc: Global, text: &str) -> Result<(usize, Option<Text>
             Some(Token::Key(name)) => {
                 let first = firsts.last().copied().unwrap_or(0);
                 if is_among(&names, first, name) {
-                    return Ok((
-                        begin_at(text.as_bytes(), offset),
-                        Some(Text::of(alloc, name)?),
-                    ));
+                    return Ok(begin_at(text.as_bytes(), offset));
                 }
                 names.push(name)?;
             }
-            Some(Token::Bad) | None => return Ok((0, None)),
+            Some(Token::Bad) | None => return Ok(0),
             Some(_) => {}
         }
     }
-    Ok((0, None))
+    Ok(0)
+}
+
+/// The bytes before an offset.
+fn front(text: &[u8], offset: usize) -> &[u8]
+    ensures { result.now ≡ take offset text.now }
+{
+    if offset < text.len() {
+        &text[..offset]
+    } else {
+        text
+    }
+}
+
+fn is_line_feed(byte: u8) -> bool
+    ensures { result ≡ is_line_feed byte }
+{
+    byte == b'\n'
+}
+
+fn begins_character(byte: u8) -> bool
+    ensures { result ≡ begins_character byte }
+{
+    byte < 0x80 || byte >= 0xC0
+}
+
+/// What stands after the last line feed.
+fn last_line(text: &[u8]) -> &[u8]
+    ensures { result.now ≡ after_last is_line_feed text.now }
+{
+    let mut start = text.len();
+    while start > 0 && !is_line_feed(text[start - 1]) {
+        start -= 1;
+    }
+    &text[start..]
+}
+
+fn line_feeds(text: &[u8]) -> usize
+    ensures count { result ≡ length (filter is_line_feed text.now) }
+    ensures bound { result ≤ length text.now }
+{
+    text.iter().filter(|byte| is_line_feed(**byte)).count()
+}
+
+fn characters(text: &[u8]) -> usize
+    ensures count { result ≡ length (filter begins_character text.now) }
+    ensures bound { result ≤ length text.now }
+{
+    text.iter().filter(|byte| begins_character(**byte)).count()
 }
 
 /// The line of the byte at an offset, counted from 1; past the end of the text that of its end.
 pub fn line_of(text: &[u8], offset: usize) -> usize
-    ensures { 0 < result }
+    ensures { result ≡ line_of text.now offset }
 {
-    let mut before = 0usize;
-    for at in 0..text.len() {
-        if at < offset && text[at] == b'\n' {
-            before = before.saturating_add(1);
-        }
-    }
-    before.saturating_add(1)
+    line_feeds(front(text, offset)) + 1
 }
 
 /// The column of the byte at an offset in its line, in characters, counted from 1; past the end of the
 /// text that of its end.
 pub fn column_of(text: &[u8], offset: usize) -> usize
-    ensures { 0 < result }
+    ensures { result ≡ column_of text.now offset }
 {
-    let mut before = 0usize;
-    for at in 0..text.len() {
-        if at < offset && text[at] == b'\n' {
-            before = 0;
-        } else if at < offset && text[at] & 0xC0 != 0x80 {
-            before = before.saturating_add(1);
-        }
-    }
-    before.saturating_add(1)
+    characters(last_line(front(text, offset))) + 1
 }

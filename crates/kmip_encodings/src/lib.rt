@@ -33,10 +33,11 @@ pub use attributes::attribute_tag;
 pub use context::{named_after, place, unnamed};
 pub use date::date_number;
 pub use error::{EncodingError, Expected, Fault};
-pub use found::{column_of, line_of, push_quoted};
+pub use expected::push_number_words;
+pub use found::{Found, column_of, line_of};
 pub use laws::{item_sizes, names_back, read_back, read_levels, written_xml};
 pub use masks::mask_bit;
-pub use names::{enumeration_name, enumeration_number, push_names};
+pub use names::{enumeration_name, enumeration_number};
 pub use read_json::{
     bits_of_parts, from_json, hex_bytes, kind_named, long_in, number_node, parts_between, spelled,
     string_node, tag_of_text, whole_number, word_in,

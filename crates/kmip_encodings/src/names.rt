@@ -1,8 +1,11 @@
 //! The names of the numbers of enumerations, by the tag that they stand under.
-ghost use Rattle.std.specs.Prelude.{◌≡◌, ◌<◌, ◌==◌, ◌&&◌, option_map, map, length, bytes_eq};
+ghost use Rattle.std.specs.Prelude.{◌≡◌, ◌<◌, ◌==◌, ◌&&◌, ◌++◌, option_map, map, length};
+ghost use Rattle.std.specs.Prelude.{bytes_eq, OnOk};
 ghost use Rattle.kmip_encodings.specs.Lines.{line_count};
 ghost use Rattle.kmip_encodings.specs.Names.{line_tags, line_numbers, line_names, line_at};
 ghost use Rattle.kmip_encodings.specs.Names.{enumeration_name, enumeration_number};
+ghost use Rattle.kmip_encodings.specs.Expected.{is_written, written_lines, are_few};
+ghost use Rattle.kmip_encodings.specs.Expected.{listed, entry_if, one_if};
 
 use crate::lines::{LINES, NAMES, NUMBERS, TAGS};
 use kmip_wire::{OutOfMemory, Tag, Text};
@@ -105,9 +108,10 @@ pub fn enumeration_number(tag: Tag, name: &str) -> Option<u32>
 /// How many names of an enumeration are shown at most.
 const FEW: usize = 16;
 
-/// Whether the line has the name that is written of its number, under the tag.
+/// Whether the line at `index` has the name that is written of its number, under the tag.
 fn is_written(index: usize, tag: Tag) -> bool
     requires { index < line_count }
+    ensures { result ≡ is_written tag (line_at index) }
 {
     if !has_tag(index, tag) {
         return false;
@@ -118,23 +122,51 @@ fn is_written(index: usize, tag: Tag) -> bool
     }
 }
 
-/// Appends the names of the enumeration under the tag, with a comma and a space after each, where they
-/// are 1 to 16; and returns whether they are. It fails only where memory runs out.
-pub fn push_names(out: &mut Text, tag: Tag) -> Result<bool, OutOfMemory> {
+fn one_if(is_one: bool) -> usize
+    ensures { result ≡ one_if is_one }
+{
+    if is_one { 1 } else { 0 }
+}
+
+/// How many names the enumeration under the tag has.
+fn name_count(tag: Tag) -> usize
+    ensures { result ≡ length (written_lines tag) }
+{
     let mut count = 0usize;
     for index in 0..LINES {
-        if is_written(index, tag) {
-            count = count.saturating_add(1);
-        }
+        count += one_if(is_written(index, tag));
     }
-    if count == 0 || count > FEW {
-        return Ok(false);
+    count
+}
+
+/// Whether the names of the enumeration under the tag are 1 to 16.
+pub(crate) fn has_few_names(tag: Tag) -> bool
+    ensures { result ≡ are_few (length (written_lines tag)) }
+{
+    let count = name_count(tag);
+    0 < count && count <= FEW
+}
+
+/// Appends the name in the line at `index` with a comma and a space after it, where it is written.
+fn push_name(out: &mut Text, index: usize, tag: Tag) -> Result<(), OutOfMemory>
+    requires { index < line_count }
+    ensures { OnOk result (out.new ≡
+        out.old ++ entry_if (is_written tag (line_at index)) (line_at index)) }
+{
+    if !is_written(index, tag) {
+        return Ok(());
     }
+    out.push_str(name_at(index))?;
+    out.push_str(", ")
+}
+
+/// Appends the names of the enumeration under the tag, with a comma and a space after each. It fails
+/// only where memory runs out.
+pub(crate) fn push_names(out: &mut Text, tag: Tag) -> Result<(), OutOfMemory>
+    ensures { OnOk result (out.new ≡ out.old ++ listed (written_lines tag)) }
+{
     for index in 0..LINES {
-        if is_written(index, tag) {
-            out.push_str(name_at(index))?;
-            out.push_str(", ")?;
-        }
+        push_name(out, index, tag)?;
     }
-    Ok(true)
+    Ok(())
 }

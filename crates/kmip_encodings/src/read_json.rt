@@ -1,11 +1,12 @@
 //! Reading JSON as a tree.
 ghost use Rattle.std.specs.Prelude.{bytes_eq, ◌≡◌, ◌<◌, ◌==◌, ℕ, ◌∷◌, IfOk, Err, map};
-ghost use Rattle.std.specs.Prelude.{option_map, option_and_then};
+ghost use Rattle.std.specs.Prelude.{option_map, option_and_then, is_some, ◌≤◌};
 ghost use Rattle.std.specs.List.{slice_split};
 ghost use Rattle.std.specs.Result.{result_ok};
 ghost use Rattle.std.specs.Fmt.{signed_decimal};
 ghost use Rattle.hex.specs.Hex.{decode_of};
 ghost use Rattle.json.specs.Find.{as_array, is_null};
+ghost use Rattle.json.specs.Reads.{token_of};
 ghost use Rattle.json.specs.Value.{value_view, items_view, members_view};
 ghost use Rattle.std.specs.Int.{w32, w64, cast_signed};
 ghost use Rattle.kmip_wire.specs.declared.kind.Kind.TheVariants.{Structure, BigInteger};
@@ -26,7 +27,7 @@ ghost use Rattle.kmip_encodings.specs.Reading.{kind_from, tag_from, is_known, ar
 ghost use Rattle.kmip_encodings.specs.Reading.{wants, within, items_by, node_read, parts_in};
 ghost use Rattle.kmip_encodings.specs.Reading.{is_exact, known_members, scalar_read};
 ghost use Rattle.kmip_encodings.specs.Reading.{read_item, Fails, Reads, ReadsItems};
-ghost use Rattle.kmip_encodings.specs.Reading.{ReadsText};
+ghost use Rattle.kmip_encodings.specs.Reading.{ReadsText, depth_after, is_too_deep};
 
 use crate::context::{named_after, place, unnamed};
 use crate::date::date_number;
@@ -700,25 +701,33 @@ pub(crate) fn read_one(alloc: Global, value: &Value<'_>) -> Result<Option<Tree>,
     }
 }
 
-/// Whether the text nests more than 128 deep at this byte, where reading stopped.
-fn is_too_deep(alloc: Global, text: &str, place: usize) -> Result<bool, OutOfMemory> {
+/// How many brackets are open after a token.
+fn depth_after(depth: usize, token: &Token<'_>) -> usize
+    requires { depth ≤ 128 }
+    ensures { result ≡ depth_after depth (token_of token.now) }
+{
+    match token {
+        Token::BeginObject | Token::BeginArray => depth + 1,
+        Token::EndObject | Token::EndArray => depth.saturating_sub(1),
+        _ => depth,
+    }
+}
+
+/// The byte at which a text nests more than 128 deep, if it does.
+#[tactic(auto, unfolding(crate::specs::Reading::is_too_deep))]
+fn deep_at(alloc: Global, text: &str) -> Result<Option<usize>, OutOfMemory>
+    ensures { IfOk result (λ place. is_some place ≡ is_too_deep text.now) }
+{
     let mut scratch = Scratch::new(alloc);
     let mut reader = Reader::new(text, &mut scratch)?;
     let mut depth = 0usize;
-    for _ in 0..text.len() {
-        match reader.next() {
-            Some(Token::BeginObject) | Some(Token::BeginArray) => {
-                if depth == MAX_DEPTH {
-                    return Ok(reader.offset() == place);
-                }
-                depth = depth.saturating_add(1);
-            }
-            Some(Token::EndObject) | Some(Token::EndArray) => depth = depth.saturating_sub(1),
-            Some(Token::Bad) | None => return Ok(false),
-            Some(_) => {}
+    while let Some(token) = reader.next() {
+        depth = depth_after(depth, &token);
+        if depth > MAX_DEPTH {
+            return Ok(Some(reader.offset()));
         }
     }
-    Ok(false)
+    Ok(None)
 }
 
 /// Where a text that is no JSON stops being one.
@@ -745,23 +754,19 @@ fn broken_at(alloc: Global, text: &str) -> Result<usize, OutOfMemory> {
 ///
 /// Digits may be of either case. A Structure has no items where its `value` is null or left out.
 ///
-/// `NotJson` and `TooDeep` have the byte at which reading stopped, and `Misfit` the place of the
-/// item that is none with what was expected there; `refusal_of` says each of them to a person. At
-/// most 64 levels are read.
+/// `NotJson` has the byte at which reading stopped, `TooDeep` the one at which more than 128 brackets
+/// are open, and `Misfit` the place of the item that is none with what was expected there;
+/// `refusal_of` says each of them to a person. At most 64 levels are read.
 pub fn from_json(alloc: Global, text: &str) -> Result<Tree, EncodingError>
     ensures { ReadsText result text.now }
 {
     let mut scratch = Scratch::new(alloc);
     match Value::parse_strict(alloc, text, &mut scratch) {
         Ok(value) => read_item(alloc, &value, 64, unnamed()),
-        Err(Error::Invalid) => {
-            let place = broken_at(alloc, text)?;
-            if is_too_deep(alloc, text, place)? {
-                Err(EncodingError::TooDeep(place))
-            } else {
-                Err(EncodingError::NotJson(place))
-            }
-        }
+        Err(Error::Invalid) => match deep_at(alloc, text)? {
+            Some(place) => Err(EncodingError::TooDeep(place)),
+            None => Err(EncodingError::NotJson(broken_at(alloc, text)?)),
+        },
         Err(Error::DuplicateKey) => Err(EncodingError::RepeatedName),
         Err(_) => Err(EncodingError::OutOfMemory),
     }

@@ -1,18 +1,20 @@
 //! Why a text is not read, for a person: where, what was expected and what stands there.
 ghost use Rattle.std.specs.Fmt.{decimal};
-ghost use Rattle.std.specs.Prelude.{◌≡◌, ◌<◌, ◌++◌, IfOk, OnOk};
+ghost use Rattle.std.specs.Prelude.{◌≡◌, ◌++◌, IfOk, OnOk, option_map};
 ghost use Rattle.kmip_encodings.specs.Refusals.{dotted, index_text, place_text, path_text};
 ghost use Rattle.kmip_encodings.specs.Refusals.{position_text, path_part, found_text};
-ghost use Rattle.kmip_encodings.specs.Refusals.{refusal_text};
+ghost use Rattle.kmip_encodings.specs.Refusals.{refusal_text, found_words, path_of, expected_of};
+ghost use Rattle.kmip_encodings.specs.Refusals.{StandsAt, Tells};
 
-use crate::error::{EncodingError, Expected, Fault};
+use crate::context::unnamed;
+use crate::error::{EncodingError, Fault};
 use crate::expected::{push_expected, table_tag};
 use crate::found::{
-    Spot, column_of, item_at, line_of, push_found, push_quoted, repeated, spot_offset,
+    Found, column_of, fault_offset, found_in, found_words, item_at, line_of, member_of, repeated,
 };
 use itoa::Buffer;
 use json::{Error, Scratch, Value};
-use kmip_wire::{OutOfMemory, Text};
+use kmip_wire::{OutOfMemory, Tag, Text};
 use std::alloc::Global;
 
 /// Why a text is not read as a tree, for a person.
@@ -27,18 +29,19 @@ pub struct Refusal {
     pub path: Text,
     /// What was expected there, with the names that are known where they are few.
     pub expected: Text,
-    /// What stands there. Of the value of a string or a Big Integer only its form is shown, since it
-    /// may be a secret.
-    pub found: Text,
+    /// What stands there, by its form: no value is shown, since it may be a secret.
+    pub found: Found,
 }
 
-/// Where a refusal stands, in bytes, and its parts.
-#[derive(Drop)]
+/// What the text says of a refusal.
+#[derive(Clone, Copy, Drop)]
 struct Parts {
+    /// Where it stands, in bytes.
     offset: usize,
-    path: Text,
-    expected: Text,
-    found: Text,
+    /// Under which tag the names of numbers are.
+    tag: Tag,
+    /// What stands there.
+    found: Found,
 }
 
 /// Appends a number in decimal.
@@ -82,14 +85,19 @@ fn place_text(alloc: Global, place: &[usize]) -> Result<Text, OutOfMemory>
     }
 }
 
-/// The way to a part of an item from the outermost item.
-fn path_text(alloc: Global, place: &[usize], spot: Spot) -> Result<Text, OutOfMemory>
-    ensures { IfOk result (λ text. text ≡ path_text place.now spot) }
+/// The way to an item, or to one of its members, from the outermost item.
+fn path_text(
+    alloc: Global,
+    place: &[usize],
+    member: Option<&'static str>,
+) -> Result<Text, OutOfMemory>
+    ensures { IfOk result
+        (λ text. text ≡ path_text place.now (option_map (λ name. name.now) member.entry)) }
 {
     let mut text = place_text(alloc, place)?;
-    match spot {
-        Spot::Item | Spot::OtherMember => Ok(text),
-        Spot::Member(name) => {
+    match member {
+        None => Ok(text),
+        Some(name) => {
             push_dot(&mut text)?;
             text.push_str(name)?;
             Ok(text)
@@ -97,14 +105,41 @@ fn path_text(alloc: Global, place: &[usize], spot: Spot) -> Result<Text, OutOfMe
     }
 }
 
-/// The part of an item that is at fault.
-fn spot_of(expected: Expected) -> Spot {
-    match expected {
-        Expected::Object | Expected::FewerLevels => Spot::Item,
-        Expected::Members => Spot::OtherMember,
-        Expected::Tag => Spot::Member("tag"),
-        Expected::Type => Spot::Member("type"),
-        Expected::Value(_) => Spot::Member("value"),
+/// The way to what is at fault.
+fn path_of(alloc: Global, error: &EncodingError) -> Result<Text, OutOfMemory>
+    ensures { IfOk result (λ text. text ≡ path_of error.now) }
+{
+    match error {
+        EncodingError::Misfit(fault) => {
+            path_text(alloc, fault.place.as_slice(), member_of(fault.expected))
+        }
+        _ => Ok(Text::new(alloc)),
+    }
+}
+
+/// What was expected; names of numbers are those under the tag.
+fn expected_of(alloc: Global, error: &EncodingError, tag: Tag) -> Result<Text, OutOfMemory>
+    ensures { IfOk result (λ text. text ≡ expected_of error.now tag) }
+{
+    match error {
+        EncodingError::NotJson(_) => Text::of(alloc, "JSON"),
+        EncodingError::TooDeep(_) => Text::of(alloc, "at most 64 levels of items"),
+        EncodingError::RepeatedName => Text::of(alloc, "each name once in an object"),
+        EncodingError::Misfit(fault) => {
+            let mut text = Text::new(alloc);
+            push_expected(&mut text, fault.expected, tag)?;
+            Ok(text)
+        }
+        EncodingError::OutOfMemory => Ok(Text::new(alloc)),
+    }
+}
+
+/// What stands where reading stopped.
+fn found_at(text: &str, offset: usize) -> Found {
+    if offset < text.len() {
+        Found::OtherText
+    } else {
+        Found::End
     }
 }
 
@@ -116,73 +151,22 @@ fn misfit_parts(
     fault: &Fault,
 ) -> Result<Parts, OutOfMemory> {
     let place = fault.place.as_slice();
-    let spot = spot_of(fault.expected);
-    let mut expected = Text::new(alloc);
-    push_expected(
-        &mut expected,
-        fault.expected,
-        table_tag(alloc, root, place)?,
-    )?;
-    let mut found = Text::new(alloc);
-    push_found(
-        alloc,
-        &mut found,
-        item_at(root, place),
-        spot,
-        fault.expected,
-    )?;
     Ok(Parts {
-        offset: spot_offset(alloc, text, place, spot)?,
-        path: path_text(alloc, place, spot)?,
-        expected,
-        found,
+        offset: fault_offset(alloc, text, place, fault.expected)?,
+        tag: table_tag(alloc, root, place)?,
+        found: found_in(item_at(root, place), fault.expected),
     })
 }
 
 /// The parts of a refusal that stands in no item.
-fn plain_parts(
-    alloc: Global,
-    offset: usize,
-    expected: &str,
-    found: &str,
-) -> Result<Parts, OutOfMemory> {
-    Ok(Parts {
+fn plain_parts(offset: usize, found: Found) -> Parts
+    ensures { result.offset ≡ offset }
+{
+    Parts {
         offset,
-        path: Text::new(alloc),
-        expected: Text::of(alloc, expected)?,
-        found: Text::of(alloc, found)?,
-    })
-}
-
-/// What stands at a byte where reading stopped: the byte where it is a mark of ASCII.
-fn mark_at(alloc: Global, text: &str, offset: usize) -> Result<Text, OutOfMemory> {
-    let Some(byte) = text.as_bytes().get(offset) else {
-        return Text::of(alloc, "the end of the text");
-    };
-    if !byte.is_ascii_graphic() {
-        return Text::of(alloc, "something else");
+        tag: unnamed(),
+        found,
     }
-    let mut found = Text::of(alloc, "a ")?;
-    found.push(char::from(*byte))?;
-    Ok(found)
-}
-
-fn broken_parts(alloc: Global, text: &str, offset: usize) -> Result<Parts, OutOfMemory> {
-    let found = mark_at(alloc, text, offset)?;
-    plain_parts(alloc, offset, "JSON", found.as_str())
-}
-
-fn repeated_parts(alloc: Global, text: &str) -> Result<Parts, OutOfMemory> {
-    let (offset, name) = repeated(alloc, text)?;
-    let mut found = Text::new(alloc);
-    match name {
-        Some(name) => {
-            push_quoted(alloc, &mut found, name.as_str())?;
-            found.push_str(" twice")?;
-        }
-        None => found.push_str("one twice")?,
-    }
-    plain_parts(alloc, offset, "each name once in an object", found.as_str())
 }
 
 /// The parts of the refusal of an item; the text is read again.
@@ -191,37 +175,35 @@ fn fault_parts(alloc: Global, text: &str, fault: &Fault) -> Result<Parts, OutOfM
     match Value::parse(alloc, text, &mut scratch) {
         Ok(root) => misfit_parts(alloc, text, &root, fault),
         Err(Error::OutOfMemory) => Err(OutOfMemory),
-        Err(_) => plain_parts(alloc, 0, "JSON", "something else"),
+        Err(_) => Ok(plain_parts(0, Found::OtherText)),
     }
 }
 
-fn parts_of(alloc: Global, text: &str, error: &EncodingError) -> Result<Parts, OutOfMemory> {
+fn parts_of(alloc: Global, text: &str, error: &EncodingError) -> Result<Parts, OutOfMemory>
+    ensures { IfOk result (λ parts. StandsAt error.now parts.offset) }
+{
     match error {
-        EncodingError::NotJson(offset) => broken_parts(alloc, text, *offset),
-        EncodingError::TooDeep(offset) => plain_parts(
-            alloc,
-            *offset,
-            "at most 64 levels of items",
-            "one more, or JSON that nests more than 128 deep",
-        ),
-        EncodingError::RepeatedName => repeated_parts(alloc, text),
+        EncodingError::NotJson(offset) => Ok(plain_parts(*offset, found_at(text, *offset))),
+        EncodingError::TooDeep(offset) => Ok(plain_parts(*offset, Found::DeeperLevel)),
+        EncodingError::RepeatedName => { Ok(plain_parts(repeated(alloc, text)?, Found::NameTwice)) }
         EncodingError::Misfit(fault) => fault_parts(alloc, text, fault),
         EncodingError::OutOfMemory => Err(OutOfMemory),
     }
 }
 
-/// Why this text is not read: the error is that of `from_json` for the same text. It fails only
-/// where memory runs out.
+/// Why this text is not read: the error is that of `from_json` for the same text. Nothing in it is of
+/// a value. It fails only where memory runs out.
 pub fn refusal_of(alloc: Global, text: &str, error: &EncodingError) -> Result<Refusal, OutOfMemory>
-    ensures line { IfOk result (λ refusal. 0 < refusal.line) }
-    ensures column { IfOk result (λ refusal. 0 < refusal.column) }
+    ensures { IfOk result (λ refusal. Tells text.now error.now refusal) }
 {
     let parts = parts_of(alloc, text, error)?;
+    let path = path_of(alloc, error)?;
+    let expected = expected_of(alloc, error, parts.tag)?;
     Ok(Refusal {
         line: line_of(text.as_bytes(), parts.offset),
         column: column_of(text.as_bytes(), parts.offset),
-        path: parts.path,
-        expected: parts.expected,
+        path,
+        expected,
         found: parts.found,
     })
 }
@@ -248,22 +230,22 @@ fn push_path(out: &mut Text, path: &str) -> Result<(), OutOfMemory>
 }
 
 /// Appends what was expected and what stands there.
-fn push_words(out: &mut Text, expected: &str, found: &str) -> Result<(), OutOfMemory>
-    ensures { OnOk result (out.new ≡ out.old ++ found_text expected.now found.now) }
+fn push_words(out: &mut Text, expected: &str, found: Found) -> Result<(), OutOfMemory>
+    ensures { OnOk result (out.new ≡ out.old ++ found_text expected.now (found_words found)) }
 {
     out.push_str(": expected ")?;
     out.push_str(expected)?;
     out.push_str(", found ")?;
-    out.push_str(found)
+    out.push_str(found_words(found))
 }
 
 /// Appends a refusal as one sentence with no full stop, as
-/// `line 1, column 55, value: expected true or false, found 1`.
+/// `line 1, column 55, value: expected true, false, or 0x and 16 hex digits, found a number`.
 pub fn push_refusal(out: &mut Text, refusal: &Refusal) -> Result<(), OutOfMemory>
     ensures { OnOk result (out.new ≡ out.old ++ refusal_text refusal.now) }
 {
     push_position(out, refusal.line, refusal.column)?;
     push_path(out, refusal.path.as_str())?;
-    push_words(out, refusal.expected.as_str(), refusal.found.as_str())?;
+    push_words(out, refusal.expected.as_str(), refusal.found)?;
     Ok(())
 }

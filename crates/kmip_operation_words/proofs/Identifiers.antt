@@ -1,6 +1,6 @@
--- No payload that words ask for has an empty Unique Identifier.
+-- No payload that words ask for has an empty identifier or handle.
 use Rattle.std.proofs.Common.{◌≡◌, ℕ, List, [], ◌∷◌, ◌++◌, length, Option, Some, None, Bool, true, false, refl, ap, sym, subst}
-use Rattle.std.specs.Prelude.{◌==◌, ◌&&◌, ◌||◌, pos, nat_lt, ◌^◌, slice_get, bytes_eq, IfSome, if◌then◌else◌}
+use Rattle.std.specs.Prelude.{◌==◌, ◌&&◌, ◌||◌, nat_lt, ◌^◌, slice_get, bytes_eq, IfSome, if◌then◌else◌}
 use Rattle.std.specs.Option.{option_map, option_and_then}
 use Rattle.std.proofs.Math.Bool.{and-false}
 use Rattle.std.proofs.lemmas.Bool.{and_parts, or_from, or_parts}
@@ -10,17 +10,19 @@ use Rattle.kmip_encodings.specs.Names.{enumeration_number}
 use Rattle.kmip_wire.specs.Tree.{Tree, Scalar, scalar, trees_of, integer, long_integer, big_integer, enumeration, boolean, text_string, byte_string, date_time, interval}
 use Rattle.kmip_request_words.specs.Keys.{uses_of}
 use Rattle.kmip_request_words.specs.Options.{value_given}
-use Rattle.kmip_request_words.specs.Values.{int_of, number_of, bytes_of, word_text}
+use Rattle.kmip_request_words.specs.Values.{int_of, long_of, count_of, number_of, bytes_of, word_text}
 use Rattle.kmip_request_words.specs.Words.{parts_between}
-use Rattle.kmip_tags.specs.Tags.{UNIQUE_IDENTIFIER, ATTRIBUTE_VALUE, CRYPTOGRAPHIC_PARAMETERS}
+use Rattle.kmip_tags.specs.Tags.{ASYNCHRONOUS_CORRELATION_VALUE, ATTRIBUTE_VALUE, CRYPTOGRAPHIC_PARAMETERS}
 use Rattle.kmip_enums.specs.declared.operation.Operation.{Operation}
 use Rattle.kmip_operation_words.specs.declared.rows.Kind.{Kind as TheKind}
 use Rattle.kmip_operation_words.specs.declared.rows.Kind.TheVariants as kinds
+use Rattle.kmip_operation_words.specs.declared.rows.Group.{Group}
+use Rattle.kmip_operation_words.specs.declared.rows.Group.TheVariants as groups
 use Rattle.kmip_operation_words.specs.Rows.{Field, Form, bare, as_parameter, as_attribute, in_domain, as_name, Place, word_at, each_behind, optional, needed, usual, always, Part, Row}
 use Rattle.kmip_operation_words.specs.Values.{value_of, not_empty, truth_of}
-use Rattle.kmip_operation_words.specs.Items.{formed, value_tag, word_items, alone, both, all_items, Words, option_items, place_items, field_items, is_parameter, items_where, fields_items, around, grouped, part_items}
+use Rattle.kmip_operation_words.specs.Items.{formed, value_tag, word_items, alone, both, all_items, Words, option_items, place_items, field_items, is_parameter, items_where, fields_items, around, structure_of, grouped, part_items}
 use Rattle.kmip_operation_words.specs.Table.{calls}
-use Rattle.kmip_operations.specs.Calls.{is_empty_identifier, has_empty_identifier, have_empty_identifier}
+use Rattle.kmip_operations.specs.Calls.{is_identifier, is_empty_identifier, has_empty_identifier, have_empty_identifier}
 use Rattle.kmip_operation_words.specs.Calls.{payload, are_of, words_of, asked_by, row_in, operation_asked}
 
 -- a value that is no empty identifier, and items of which none is one, where there are any
@@ -64,13 +66,15 @@ each-full items full [] = refl
 each-full items full (x ∷ xs) =
     both-full (items x) (all_items items xs) (full x) (each-full items full xs)
 
--- a field that gives no empty identifier: under the tag stands an identifier
-abbrev is_identifier : TheKind → Bool
-is_identifier kinds.Identifier = true
-is_identifier kind = false
+-- a field that gives no empty identifier: under the tag of one stands no text, and under that of a
+-- handle no bytes, that may be empty
+abbrev keeps_kind : TheKind → ℕ → Bool
+keeps_kind kinds.Text tag = if is_identifier tag then false else true
+keeps_kind kinds.Hex tag = if tag == ASYNCHRONOUS_CORRELATION_VALUE then false else true
+keeps_kind kind tag = true
 
 abbrev keeps : Field → Bool
-keeps field = if field.tag == UNIQUE_IDENTIFIER then is_identifier field.kind else true
+keeps field = keeps_kind field.kind field.tag
 
 abbrev part_keeps : Part → Bool
 part_keeps part = all_are keeps part.fields
@@ -81,17 +85,24 @@ row_keeps row = all_are part_keeps row.parts
 calls-keep : all_are row_keeps calls ≡ true
 calls-keep = refl
 
-under-other : (tag : ℕ) (value : Scalar) → (tag == UNIQUE_IDENTIFIER) ≡ false
-    → is_empty_identifier tag value ≡ false
-under-other tag (text_string text) other = rw other refl
-under-other tag (integer z) other = refl
-under-other tag (long_integer z) other = refl
-under-other tag (big_integer b) other = refl
-under-other tag (enumeration n) other = refl
-under-other tag (boolean b) other = refl
-under-other tag (byte_string b) other = refl
-under-other tag (date_time n) other = refl
-under-other tag (interval n) other = refl
+under-attribute : (value : Scalar) → is_empty_identifier ATTRIBUTE_VALUE value ≡ false
+under-attribute (text_string text) = refl
+under-attribute (integer z) = refl
+under-attribute (long_integer z) = refl
+under-attribute (big_integer b) = refl
+under-attribute (enumeration n) = refl
+under-attribute (boolean b) = refl
+under-attribute (byte_string b) = refl
+under-attribute (date_time n) = refl
+under-attribute (interval n) = refl
+
+no-text : (tag : ℕ) (text : List ℕ) → is_identifier tag ≡ false
+    → is_empty_identifier tag (text_string text) ≡ false
+no-text tag text other = ap (λ b. b && length text == 0) other
+
+no-bytes : (tag : ℕ) (bytes : List ℕ) → (tag == ASYNCHRONOUS_CORRELATION_VALUE) ≡ false
+    → is_empty_identifier tag (byte_string bytes) ≡ false
+no-bytes tag bytes other = ap (λ b. b && length bytes == 0) other
 
 map-full : {A : Type 0} (f : A → Scalar) (tag : ℕ) (o : Option A)
     → ((x : A) → is_empty_identifier tag (f x) ≡ false) → FullValue tag (option_map f o)
@@ -101,7 +112,17 @@ map-full f tag (Some x) full = full x
 full-if : (b : Bool) (tag : ℕ) (text : List ℕ) → (length text == 0) ≡ b
     → FullValue tag (option_map text_string (if b then None else Some text))
 full-if true tag text is = tt
-full-if false tag text is = rw is (and-false (tag == UNIQUE_IDENTIFIER))
+full-if false tag text is = rw is (and-false (is_identifier tag))
+
+handle-if : (b : Bool) (tag : ℕ) (bytes : List ℕ) → (length bytes == 0) ≡ b
+    → FullValue tag (option_map byte_string (if b then None else Some bytes))
+handle-if true tag bytes is = tt
+handle-if false tag bytes is = rw is (and-false (tag == ASYNCHRONOUS_CORRELATION_VALUE))
+
+handle-full : (tag : ℕ) (o : Option (List ℕ))
+    → FullValue tag (option_map byte_string (option_and_then not_empty o))
+handle-full tag None = tt
+handle-full tag (Some bytes) = handle-if (length bytes == 0) tag bytes refl
 
 identifier-full : (tag : ℕ) (o : Option (List ℕ))
     → FullValue tag (option_map text_string (option_and_then not_empty o))
@@ -113,17 +134,20 @@ other-than false is = refl
 other-than true is = sym is
 
 kind-full : (kind : TheKind) (tag : ℕ) (text : List ℕ)
-    → (if tag == UNIQUE_IDENTIFIER then is_identifier kind else true) ≡ true
+    → keeps_kind kind tag ≡ true
     → FullValue tag (value_of kind tag text)
 kind-full kinds.Identifier tag text kept = identifier-full tag (word_text text)
 kind-full kinds.Text tag text kept =
     map-full text_string tag (word_text text)
-    (λ t. under-other tag (text_string t) (other-than (tag == UNIQUE_IDENTIFIER) kept))
-kind-full kinds.Hex tag text kept = map-full byte_string tag (bytes_of text) (λ x. refl)
+    (λ t. no-text tag t (other-than (is_identifier tag) kept))
+kind-full kinds.Hex tag text kept =
+    map-full byte_string tag (bytes_of text)
+    (λ b. no-bytes tag b (other-than (tag == ASYNCHRONOUS_CORRELATION_VALUE) kept))
+kind-full kinds.Handle tag text kept = handle-full tag (bytes_of text)
 kind-full kinds.Int tag text kept = map-full integer tag (int_of text) (λ x. refl)
 kind-full kinds.Count tag text kept =
-    map-full (λ n. long_integer (pos n)) tag (number_of text) (λ x. refl)
-kind-full kinds.Date tag text kept = map-full date_time tag (number_of text) (λ x. refl)
+    map-full long_integer tag (count_of text) (λ x. refl)
+kind-full kinds.Date tag text kept = map-full date_time tag (long_of text) (λ x. refl)
 kind-full kinds.Seconds tag text kept = map-full interval tag (number_of text) (λ x. refl)
 kind-full kinds.Truth tag text kept = map-full boolean tag (truth_of text) (λ x. refl)
 kind-full kinds.Name tag text kept =
@@ -138,7 +162,7 @@ formed-full : (form : Form) (tag : ℕ) (value : Scalar) → is_empty_identifier
 formed-full bare tag value full = rw full refl
 formed-full as_parameter tag value full = rw full refl
 formed-full (as_attribute name) tag value full =
-    rw (under-other ATTRIBUTE_VALUE value refl) refl
+    rw (under-attribute value) refl
 formed-full in_domain tag value full = rw full refl
 formed-full as_name tag value full = rw full refl
 
@@ -200,11 +224,21 @@ tagged-full : (b : Bool) (o : Option (List Tree)) → Full o → Full (if b then
 tagged-full true o full = full
 tagged-full false o full = tt
 
-grouped-full : (group : Option ℕ) (given : Option (List Tree)) → Full given
+structure-full : (tag : ℕ) (is_needed : Bool) (given : Option (List Tree)) → Full given
+    → Full (option_map (structure_of tag is_needed) given)
+structure-full tag is_needed None full = tt
+structure-full tag true (Some items) full = rw full refl
+structure-full tag false (Some items) full = around-full tag items full
+
+grouped-full : (group : Group) (given : Option (List Tree)) → Full given
     → Full (grouped group given)
-grouped-full None given full = full
-grouped-full (Some tag) given full =
-    tagged-full (nat_lt tag (2 ^ 24)) (option_map (around tag) given) (group-full tag given full)
+grouped-full groups.Payload given full = full
+grouped-full (groups.Given tag) given full =
+    tagged-full (nat_lt tag (2 ^ 24)) (option_map (structure_of tag false) given)
+    (structure-full tag false given full)
+grouped-full (groups.Needed tag) given full =
+    tagged-full (nat_lt tag (2 ^ 24)) (option_map (structure_of tag true) given)
+    (structure-full tag true given full)
 
 where-first : (b : Bool) (items : Option (List Tree)) → Full items
     → Full (if b then items else Some [])

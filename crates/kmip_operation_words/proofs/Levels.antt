@@ -6,9 +6,11 @@ use Rattle.std.proofs.lemmas.Option.{none-some, same_Some}
 use Rattle.kmip_wire.specs.Tree.{Tree, Scalar, scalar, trees_of}
 use Rattle.kmip_wire.specs.Bytes.{levels, levels_of_all}
 use Rattle.kmip_request_words.specs.Options.{value_given}
+use Rattle.kmip_operation_words.specs.declared.rows.Group.{Group}
+use Rattle.kmip_operation_words.specs.declared.rows.Group.TheVariants as groups
 use Rattle.kmip_operation_words.specs.Rows.{Field, Form, bare, as_parameter, as_attribute, in_domain, as_name, Place, word_at, each_behind, optional, needed, usual, always, Part}
 use Rattle.kmip_operation_words.specs.Values.{value_of}
-use Rattle.kmip_operation_words.specs.Items.{formed, value_tag, word_items, alone, both, all_items, Words, option_items, place_items, field_items, is_parameter, items_where, fields_items, around, grouped, part_items}
+use Rattle.kmip_operation_words.specs.Items.{formed, value_tag, word_items, alone, both, all_items, Words, option_items, place_items, field_items, is_parameter, items_where, fields_items, around, structure_of, grouped, part_items}
 use Rattle.kmip_tags.specs.Tags.{CRYPTOGRAPHIC_PARAMETERS, REQUEST_PAYLOAD}
 use Rattle.kmip_enums.specs.declared.operation.Operation.{Operation}
 use Rattle.kmip_operation_words.specs.Rows.{Row}
@@ -109,11 +111,21 @@ tagged-low : (b : Bool) (o : Option (List Tree)) → Low 4 o → Low 4 (if b the
 tagged-low true o low = low
 tagged-low false o low = tt
 
-grouped-low : (group : Option ℕ) (given : Option (List Tree)) → Low 3 given
+structure-low : (tag : ℕ) (is_needed : Bool) (given : Option (List Tree)) → Low 3 given
+    → Low 4 (option_map (structure_of tag is_needed) given)
+structure-low tag is_needed None low = tt
+structure-low tag true (Some items) low = omega (arith, low)
+structure-low tag false (Some items) low = around-low 3 tag items low
+
+grouped-low : (group : Group) (given : Option (List Tree)) → Low 3 given
     → Low 4 (grouped group given)
-grouped-low None given low = own-low given low
-grouped-low (Some tag) given low =
-    tagged-low (nat_lt tag (2 ^ 24)) (option_map (around tag) given) (group-low 3 tag given low)
+grouped-low groups.Payload given low = own-low given low
+grouped-low (groups.Given tag) given low =
+    tagged-low (nat_lt tag (2 ^ 24)) (option_map (structure_of tag false) given)
+    (structure-low tag false given low)
+grouped-low (groups.Needed tag) given low =
+    tagged-low (nat_lt tag (2 ^ 24)) (option_map (structure_of tag true) given)
+    (structure-low tag true given low)
 
 more-low : (n m : ℕ) (given : Option (List Tree)) → n ≤ m → Low n given → Low m given
 more-low n m None le low = tt

@@ -2,11 +2,12 @@
 use Rattle.std.specs.Prelude.{ℕ, ◌==◌, ◌&&◌, Bool, true, false}
 use Rattle.std.specs.List.{list_any}
 use Rattle.kmip_operation_words.specs.declared.rows.Kind.{Kind}
-use Rattle.kmip_operation_words.specs.declared.rows.Kind.TheVariants.{Hex}
+use Rattle.kmip_operation_words.specs.declared.rows.Kind.TheVariants.{Hex, Handle}
 use Rattle.kmip_operation_words.specs.Rows.{Field, Place, word_at, Part, Row}
 
 abbrev pub is_hex : Kind → Bool
 is_hex Hex = true
+is_hex Handle = true
 is_hex kind = false
 
 abbrev pub is_at : ℕ → Place → Bool

@@ -1,7 +1,7 @@
 -- The fields of payloads: which word gives each, and how it stands among the items.
 use Rattle.std.specs.Prelude.{List, [], ◌∷◌, codes}
 use Rattle.kmip_tags.specs.Tags as tags
-use Rattle.kmip_operation_words.specs.declared.rows.Kind.TheVariants.{Identifier, Text, Hex, Int, Count, Seconds, Truth, Name, Uses}
+use Rattle.kmip_operation_words.specs.declared.rows.Kind.TheVariants.{Identifier, Text, Hex, Handle, Int, Count, Seconds, Truth, Name, Uses}
 use Rattle.kmip_operation_words.specs.Rows.{Field, field, bare, as_parameter, as_attribute, in_domain, as_name, word_at, each_behind, optional, needed, usual, always}
 
 -- the identifier of the object
@@ -226,7 +226,7 @@ count = field (codes "COUNT") (word_at 1) tags.USAGE_LIMITS_COUNT Count bare
 
 -- the value that names an operation that has not ended: KMIP 1.0, 6.8
 abbrev pub correlation : Field
-correlation = field (codes "HEX") (word_at 0) tags.ASYNCHRONOUS_CORRELATION_VALUE Hex bare
+correlation = field (codes "HEX") (word_at 0) tags.ASYNCHRONOUS_CORRELATION_VALUE Handle bare
 
 -- bytes for the random numbers
 abbrev pub seed : Field

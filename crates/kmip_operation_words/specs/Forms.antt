@@ -1,7 +1,7 @@
 -- The form of a call: its name, its words, then its options.
 use Rattle.std.specs.Prelude.{ℕ, Bool, true, false, List, [], ◌++◌, codes, flat_map, if◌then◌else◌}
 use Rattle.kmip_operation_words.specs.declared.rows.Kind.{Kind}
-use Rattle.kmip_operation_words.specs.declared.rows.Kind.TheVariants.{Identifier, Text, Hex, Int, Count, Date, Seconds, Truth, Name, Uses}
+use Rattle.kmip_operation_words.specs.declared.rows.Kind.TheVariants.{Identifier, Text, Hex, Handle, Int, Count, Date, Seconds, Truth, Name, Uses}
 use Rattle.kmip_operation_words.specs.Rows.{Field, Place, word_at, each_behind, optional, needed, usual, Part, Row}
 
 -- what the value of an option is called
@@ -9,6 +9,7 @@ abbrev pub kind_word : Kind → List ℕ
 kind_word Identifier = codes "ID"
 kind_word Text = codes "TEXT"
 kind_word Hex = codes "HEX"
+kind_word Handle = codes "HEX"
 kind_word Int = codes "N"
 kind_word Count = codes "N"
 kind_word Date = codes "SECONDS"

@@ -5,6 +5,8 @@ use Rattle.kmip_tags.specs.Tags as tags
 use Rattle.kmip_wire.specs.Tree.{Tree, scalar, structure, none, more, trees_of, text_string, enumeration}
 use Rattle.kmip_request_words.specs.Options.{value_given}
 use Rattle.kmip_operation_words.specs.Rows.{Field, Form, bare, as_parameter, as_attribute, in_domain, as_name, Place, word_at, each_behind, optional, needed, usual, always, Part}
+use Rattle.kmip_operation_words.specs.declared.rows.Group.{Group}
+use Rattle.kmip_operation_words.specs.declared.rows.Group.TheVariants as groups
 use Rattle.kmip_operation_words.specs.Values.{value_of}
 
 -- a structure of one item, and of two
@@ -109,10 +111,21 @@ fields_items given fields =
     both (option_map (around tags.CRYPTOGRAPHIC_PARAMETERS) (all_items (items_where true given) fields))
     (all_items (items_where false given) fields)
 
--- these items: in a structure where they have one, and one is given
-abbrev pub grouped : Option ℕ → Option (List Tree) → Option (List Tree)
-grouped None items = items
-grouped (Some tag) items = if nat_lt tag (2 ^ 24) then option_map (around tag) items else None
+-- the structure round these items, where there are items or it is needed
+abbrev pub structure_of : ℕ → Bool → List Tree → List Tree
+structure_of tag true items = structure tag (trees_of items) ∷ []
+structure_of tag false items = around tag items
+
+-- the same of a tag of KMIP
+abbrev pub in_structure : ℕ → Bool → Option (List Tree) → Option (List Tree)
+in_structure tag is_needed items =
+    if nat_lt tag (2 ^ 24) then option_map (structure_of tag is_needed) items else None
+
+-- these items in what stands round them
+abbrev pub grouped : Group → Option (List Tree) → Option (List Tree)
+grouped groups.Payload items = items
+grouped (groups.Given tag) items = in_structure tag false items
+grouped (groups.Needed tag) items = in_structure tag true items
 
 abbrev pub part_items : Words → Part → Option (List Tree)
 part_items given part = grouped part.group (fields_items given part.fields)

@@ -1,5 +1,5 @@
 -- A call as a row: an operation, and the fields of its payload.
-use Rattle.std.specs.Prelude.{ℕ, List, map, Option}
+use Rattle.std.specs.Prelude.{ℕ, List, map}
 use Rattle.kmip_enums.specs.declared.operation.Operation.{Operation}
 use Rattle.kmip_operation_words.specs.declared.rows.Kind.{Kind}
 use Rattle.kmip_operation_words.specs.declared.rows.Rest.{Rest}
@@ -7,6 +7,7 @@ use Rattle.kmip_operation_words.specs.declared.rows.Form.{Form as TheForm}
 use Rattle.kmip_operation_words.specs.declared.rows.Form.TheVariants.{Item, Parameter, Attribute, Domain, Named}
 use Rattle.kmip_operation_words.specs.declared.rows.Place.{Place as ThePlace}
 use Rattle.kmip_operation_words.specs.declared.rows.Place.TheVariants as places
+use Rattle.kmip_operation_words.specs.declared.rows.Group.{Group}
 use Rattle.kmip_operation_words.specs.declared.rows.FieldRow.{FieldRow}
 use Rattle.kmip_operation_words.specs.declared.rows.PartRow.{PartRow}
 use Rattle.kmip_operation_words.specs.declared.rows.OperationRow.{OperationRow}
@@ -39,9 +40,10 @@ pub record Field : Type 0 where
   pub kind : Kind
   pub form : Form
 
--- fields that stand together, in a structure with a tag where they have one
+-- fields that stand together, and what stands round them: nothing, a structure with a tag where one
+-- of them is given, or one that is needed
 pub record Part : Type 0 where
-  pub group : Option ℕ
+  pub group : Group
   pub fields : List Field
 
 -- a call: how many words it has behind its name, and what stands behind these
@@ -56,7 +58,7 @@ abbrev pub field : List ℕ → Place → ℕ → Kind → Form → Field
 field name place tag kind form =
     record { name = name; place = place; tag = tag; kind = kind; form = form }
 
-abbrev pub part : Option ℕ → List Field → Part
+abbrev pub part : Group → List Field → Part
 part group fields = record { group = group; fields = fields }
 
 abbrev pub row : List ℕ → Operation → ℕ → Rest → List Part → Row

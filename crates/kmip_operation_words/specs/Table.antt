@@ -1,18 +1,23 @@
 -- The table of calls.
-use Rattle.std.specs.Prelude.{ℕ, List, [], ◌∷◌, codes, Some, None}
+use Rattle.std.specs.Prelude.{ℕ, List, [], ◌∷◌, codes}
 use Rattle.kmip_tags.specs.Tags as tags
 use Rattle.kmip_enums.specs.declared.operation.Operation.TheVariants as operations
+use Rattle.kmip_operation_words.specs.declared.rows.Group.TheVariants as groups
 use Rattle.kmip_operation_words.specs.declared.rows.Rest.TheVariants.{Options, Words}
 use Rattle.kmip_operation_words.specs.Rows.{Field, Part, part, Row, row}
 use Rattle.kmip_operation_words.specs.Fields.{algorithm_attribute, cipher, correlation, count, count_wanted, curve, curve_algorithm, curve_private_name, curve_public_name, data_alone, derivation_data, derivation_iv, hash, hashed_by, id, ids, iterations, iv, key_algorithm, key_bits, key_name, key_usage, lease_wanted, length, length_needed, mac, method, mode, name_given, object_data, offset, padding, parameters, private_id, private_name, private_usage, public_name, public_usage, request, request_type, salt, second_id, seed, signature, symmetric_key, type, usage_attribute, usage_wanted}
 
 -- fields that stand in the payload itself
 abbrev pub own : List Field → Part
-own fields = part None fields
+own fields = part groups.Payload fields
 
--- fields that stand in a structure
+-- fields that stand in a structure, which stands where one of them is given
 abbrev pub within : ℕ → List Field → Part
-within tag fields = part (Some tag) fields
+within tag fields = part (groups.Given tag) fields
+
+-- fields that stand in a structure which the operation requires
+abbrev pub within_needed : ℕ → List Field → Part
+within_needed tag fields = part (groups.Needed tag) fields
 
 -- the object alone
 abbrev pub object : Part
@@ -60,11 +65,11 @@ abbrev pub hash_row : Row
 hash_row = row (codes "hash") operations.Hash 1 Options
     (own (hashed_by ∷ data_alone ∷ []) ∷ [])
 
--- KMIP 1.0, 4.5
+-- KMIP 1.0, 4.5, which requires Derivation Parameters
 abbrev pub derive_key_row : Row
 derive_key_row = row (codes "derive-key") operations.DeriveKey 2 Options
     (own (type ∷ id ∷ second_id ∷ method ∷ [])
-    ∷ within tags.DERIVATION_PARAMETERS
+    ∷ within_needed tags.DERIVATION_PARAMETERS
     (mode ∷ padding ∷ hash ∷ cipher ∷ derivation_iv ∷ derivation_data ∷ salt ∷ iterations ∷ [])
     ∷ within tags.TEMPLATE_ATTRIBUTE (algorithm_attribute ∷ length_needed ∷ usage_attribute ∷ name_given ∷ [])
     ∷ [])

@@ -11,7 +11,7 @@ fn is_bytes_at(index: usize, field: &FieldRow) -> bool
     ensures { result ≡ bytes.is_bytes_at index (field_view field.now) }
 {
     match (field.place, field.kind) {
-        (Place::Word(at), Kind::Hex) => at == index,
+        (Place::Word(at), Kind::Hex | Kind::Handle) => at == index,
         _ => false,
     }
 }

@@ -502,7 +502,7 @@ pub const CORRELATION: FieldRow = FieldRow {
     name: "HEX",
     place: Place::Word(0),
     tag: tags::ASYNCHRONOUS_CORRELATION_VALUE,
-    kind: Kind::Hex,
+    kind: Kind::Handle,
     form: Form::Item,
 };
 

@@ -13,7 +13,7 @@ fn kind_word(kind: Kind) -> &'static str
     match kind {
         Kind::Identifier => "ID",
         Kind::Text => "TEXT",
-        Kind::Hex => "HEX",
+        Kind::Hex | Kind::Handle => "HEX",
         Kind::Int | Kind::Count => "N",
         Kind::Date | Kind::Seconds => "SECONDS",
         Kind::Truth => "true|false",

@@ -3,7 +3,7 @@ ghost use Rattle.std.specs.Prelude.{◌≡◌, map, ◌++◌, IfOk, OnOk};
 ghost use Rattle.kmip_operation_words.specs.Items as items;
 ghost use Rattle.kmip_operation_words.specs.Rows.{form_view, field_view, part_view};
 
-use crate::rows::{FieldRow, Form, PartRow, Place};
+use crate::rows::{FieldRow, Form, Group, PartRow, Place};
 use crate::values::value_item;
 use kmip_request_words::value_given;
 use kmip_tags::tags::{
@@ -230,6 +230,24 @@ fn push_around(tag: Tag, inner: Vec<Tree>, out: &mut Vec<Tree>) -> Result<(), Ou
     Ok(())
 }
 
+/// Adds the structure round items, where there are any or it is needed.
+fn push_structure(
+    tag: Tag,
+    is_needed: bool,
+    inner: Vec<Tree>,
+    out: &mut Vec<Tree>,
+) -> Result<(), OutOfMemory>
+    ensures { OnOk result
+        (out.new.items ≡ out.old.items ++ items.structure_of tag is_needed inner.items) }
+{
+    if !is_needed {
+        return push_around(tag, inner, out);
+    }
+    let node = Node::Structure(Trees::of_vec(inner));
+    out.push(Tree { tag, node })?;
+    Ok(())
+}
+
 /// Adds the items of fields that stand together: Cryptographic Parameters of those of its fields
 /// that are given, where one is; then the others.
 #[tactic(auto, using(std::proofs::lemmas::List::append_assoc))]
@@ -252,6 +270,33 @@ fn push_all_fields(
     push_fields(alloc, fields, false, words, behind, out)
 }
 
+/// Adds a structure of the items of fields that stand together: where there are any, or where it
+/// is needed.
+fn push_group(
+    alloc: Global,
+    tag: u32,
+    is_needed: bool,
+    fields: &[FieldRow],
+    words: &[Text],
+    behind: &[Text],
+    out: &mut Vec<Tree>,
+) -> Result<bool, OutOfMemory>
+    ensures { IfOk result (λ fits. items.added fits out.new.items ≡ items.after out.old.items
+        (items.in_structure tag is_needed
+        (items.fields_items (record { all = words.now; behind = behind.now })
+        (map field_view fields.now)))) }
+{
+    let Some(tag) = Tag::new(tag) else {
+        return Ok(false);
+    };
+    let mut inner = Vec::new(alloc);
+    if !push_all_fields(alloc, fields, words, behind, &mut inner)? {
+        return Ok(false);
+    }
+    push_structure(tag, is_needed, inner, out)?;
+    Ok(true)
+}
+
 /// Adds the items of fields that stand together, in their structure where they have one.
 fn push_part(
     alloc: Global,
@@ -264,18 +309,11 @@ fn push_part(
         (items.part_items (record { all = words.now; behind = behind.now })
         (part_view part.now))) }
 {
-    let Some(group) = part.group else {
-        return push_all_fields(alloc, part.fields, words, behind, out);
-    };
-    let Some(tag) = Tag::new(group) else {
-        return Ok(false);
-    };
-    let mut inner = Vec::new(alloc);
-    if !push_all_fields(alloc, part.fields, words, behind, &mut inner)? {
-        return Ok(false);
+    match part.group {
+        Group::Payload => push_all_fields(alloc, part.fields, words, behind, out),
+        Group::Given(tag) => push_group(alloc, tag, false, part.fields, words, behind, out),
+        Group::Needed(tag) => push_group(alloc, tag, true, part.fields, words, behind, out),
     }
-    push_around(tag, inner, out)?;
-    Ok(true)
 }
 
 /// Adds the items of parts, in order. `words` are those of the call, and `behind` those behind the

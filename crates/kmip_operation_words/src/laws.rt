@@ -18,7 +18,7 @@ pub fn call_names()
 {}
 
 /// What words ask for is a payload, a structure of at most five levels, so that no message has more
-/// levels than the 64 that one may have. No Unique Identifier in it is empty.
+/// levels than the 64 that one may have. No identifier and no handle in it is empty.
 pub fn payloads()
     ensures tag { (words : List (List ℕ)) (operation : Operation) (tree : Tree) →
         operation_asked words ≡ Some (operation, tree) →

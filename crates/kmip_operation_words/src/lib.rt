@@ -27,5 +27,5 @@ pub use forms::push_operation_form;
 pub use help::operation_help;
 pub use laws::{call_names, payloads};
 pub use refusals::{operation_refusal, why_no_call};
-pub use rows::{FieldRow, Form, Kind, OperationRow, PartRow, Place, Rest};
+pub use rows::{FieldRow, Form, Group, Kind, OperationRow, PartRow, Place, Rest};
 pub use table::operation_calls;

@@ -70,9 +70,11 @@ fn push_kind(field: &FieldRow, out: &mut Text) -> Result<(), OutOfMemory> {
         Kind::Identifier => out.push_str("a text that is not empty"),
         Kind::Text => out.push_str("a text"),
         Kind::Hex => out.push_str("an even number of hex digits, or - for no bytes"),
+        Kind::Handle => out.push_str("an even number of hex digits, at least two"),
         Kind::Int => out.push_str("a whole number from -2147483648 to 2147483647"),
-        Kind::Count => out.push_str("a whole number from 0 to 4294967295"),
-        Kind::Date | Kind::Seconds => out.push_str("seconds, from 0 to 4294967295"),
+        Kind::Count => out.push_str("a whole number from 0 to 9223372036854775807"),
+        Kind::Date => out.push_str("seconds, from 0 to 9223372036854775807"),
+        Kind::Seconds => out.push_str("seconds, from 0 to 4294967295"),
         Kind::Truth => out.push_str("true or false"),
         Kind::Uses => out.push_str("names of uses, as Sign,Verify"),
         Kind::Name => {

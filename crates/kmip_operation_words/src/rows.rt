@@ -10,11 +10,13 @@ pub enum Kind {
     Text,
     /// Bytes, in hex digits; `-` for none.
     Hex,
+    /// The handle of an operation: bytes, in hex digits, at least one.
+    Handle,
     /// A number from -2^31 to 2^31 - 1.
     Int,
-    /// A number from 0 to 2^32 - 1, as a Long Integer.
+    /// A number from 0 to 2^63 - 1, as a Long Integer.
     Count,
-    /// A date, in seconds since 1970-01-01 UTC, from 0 to 2^32 - 1.
+    /// A date, in seconds since 1970-01-01 UTC, from 0 to 2^63 - 1.
     Date,
     /// A time, in seconds, from 0 to 2^32 - 1.
     Seconds,
@@ -74,12 +76,22 @@ pub struct FieldRow {
     pub form: Form,
 }
 
+/// What stands round the fields of a part.
+#[derive(Clone, Copy, Drop)]
+pub enum Group {
+    /// Nothing: they stand in the payload itself.
+    Payload,
+    /// The structure with this tag, where one of them is given.
+    Given(u32),
+    /// The structure with this tag, which the operation requires: it stands without fields too.
+    Needed(u32),
+}
+
 /// Fields that stand together.
 #[derive(Clone, Copy, Drop)]
 pub struct PartRow {
-    /// The tag of the structure round them, which stands where one of them is given; `None` where
-    /// they stand in the payload itself.
-    pub group: Option<u32>,
+    /// What stands round them.
+    pub group: Group,
     /// The fields, in their order.
     pub fields: &'static [FieldRow],
 }

@@ -11,31 +11,31 @@ use crate::fields::{
     PRIVATE_ID, PRIVATE_NAME, PRIVATE_USAGE, PUBLIC_NAME, PUBLIC_USAGE, REQUEST, REQUEST_TYPE,
     SALT, SECOND_ID, SEED, SIGNATURE, SYMMETRIC_KEY, TYPE, USAGE_ATTRIBUTE, USAGE_WANTED,
 };
-use crate::rows::{OperationRow, PartRow, Rest};
+use crate::rows::{Group, OperationRow, PartRow, Rest};
 use kmip_enums::Operation;
 use kmip_tags::tags;
 
 /// The object alone.
 const OBJECT: PartRow = PartRow {
-    group: None,
+    group: Group::Payload,
     fields: &[ID],
 };
 
 /// How the object is used: KMIP 1.2, 3.6.
 const USED: PartRow = PartRow {
-    group: None,
+    group: Group::Payload,
     fields: PARAMETERS,
 };
 
 /// The data, and where the cipher starts.
 const DATA_AND_IV: PartRow = PartRow {
-    group: None,
+    group: Group::Payload,
     fields: &[OBJECT_DATA, IV],
 };
 
 /// The name of a new object.
 const NAMED: PartRow = PartRow {
-    group: Some(tags::TEMPLATE_ATTRIBUTE),
+    group: Group::Given(tags::TEMPLATE_ATTRIBUTE),
     fields: &[NAME_GIVEN],
 };
 
@@ -64,7 +64,7 @@ const CALLS: &[OperationRow] = &[
             OBJECT,
             USED,
             PartRow {
-                group: None,
+                group: Group::Payload,
                 fields: &[OBJECT_DATA],
             },
         ],
@@ -78,7 +78,7 @@ const CALLS: &[OperationRow] = &[
             OBJECT,
             USED,
             PartRow {
-                group: None,
+                group: Group::Payload,
                 fields: &[OBJECT_DATA, MAC],
             },
         ],
@@ -92,7 +92,7 @@ const CALLS: &[OperationRow] = &[
             OBJECT,
             USED,
             PartRow {
-                group: None,
+                group: Group::Payload,
                 fields: &[OBJECT_DATA, SIGNATURE],
             },
         ],
@@ -103,7 +103,7 @@ const CALLS: &[OperationRow] = &[
         words: 1,
         rest: Rest::Options,
         parts: &[PartRow {
-            group: None,
+            group: Group::Payload,
             fields: &[HASHED_BY, DATA_ALONE],
         }],
     },
@@ -114,11 +114,11 @@ const CALLS: &[OperationRow] = &[
         rest: Rest::Options,
         parts: &[
             PartRow {
-                group: None,
+                group: Group::Payload,
                 fields: &[TYPE, ID, SECOND_ID, METHOD],
             },
             PartRow {
-                group: Some(tags::DERIVATION_PARAMETERS),
+                group: Group::Needed(tags::DERIVATION_PARAMETERS),
                 fields: &[
                     MODE,
                     PADDING,
@@ -131,7 +131,7 @@ const CALLS: &[OperationRow] = &[
                 ],
             },
             PartRow {
-                group: Some(tags::TEMPLATE_ATTRIBUTE),
+                group: Group::Given(tags::TEMPLATE_ATTRIBUTE),
                 fields: &[
                     ALGORITHM_ATTRIBUTE,
                     LENGTH_NEEDED,
@@ -147,7 +147,7 @@ const CALLS: &[OperationRow] = &[
         words: 1,
         rest: Rest::Options,
         parts: &[PartRow {
-            group: None,
+            group: Group::Payload,
             fields: &[ID, OFFSET],
         }],
     },
@@ -157,7 +157,7 @@ const CALLS: &[OperationRow] = &[
         words: 1,
         rest: Rest::Options,
         parts: &[PartRow {
-            group: None,
+            group: Group::Payload,
             fields: &[PRIVATE_ID, OFFSET],
         }],
     },
@@ -168,7 +168,7 @@ const CALLS: &[OperationRow] = &[
         rest: Rest::Options,
         parts: &[
             PartRow {
-                group: None,
+                group: Group::Payload,
                 fields: &[ID, REQUEST_TYPE, REQUEST],
             },
             NAMED,
@@ -181,7 +181,7 @@ const CALLS: &[OperationRow] = &[
         rest: Rest::Options,
         parts: &[
             PartRow {
-                group: None,
+                group: Group::Payload,
                 fields: &[ID, REQUEST_TYPE, REQUEST, OFFSET],
             },
             NAMED,
@@ -194,15 +194,15 @@ const CALLS: &[OperationRow] = &[
         rest: Rest::Options,
         parts: &[
             PartRow {
-                group: Some(tags::COMMON_TEMPLATE_ATTRIBUTE),
+                group: Group::Given(tags::COMMON_TEMPLATE_ATTRIBUTE),
                 fields: &[CURVE_ALGORITHM, LENGTH, CURVE],
             },
             PartRow {
-                group: Some(tags::PRIVATE_KEY_TEMPLATE_ATTRIBUTE),
+                group: Group::Given(tags::PRIVATE_KEY_TEMPLATE_ATTRIBUTE),
                 fields: &[CURVE_PRIVATE_NAME, PRIVATE_USAGE],
             },
             PartRow {
-                group: Some(tags::PUBLIC_KEY_TEMPLATE_ATTRIBUTE),
+                group: Group::Given(tags::PUBLIC_KEY_TEMPLATE_ATTRIBUTE),
                 fields: &[CURVE_PUBLIC_NAME, PUBLIC_USAGE],
             },
         ],
@@ -214,15 +214,15 @@ const CALLS: &[OperationRow] = &[
         rest: Rest::Options,
         parts: &[
             PartRow {
-                group: Some(tags::COMMON_TEMPLATE_ATTRIBUTE),
+                group: Group::Given(tags::COMMON_TEMPLATE_ATTRIBUTE),
                 fields: &[KEY_ALGORITHM, KEY_BITS],
             },
             PartRow {
-                group: Some(tags::PRIVATE_KEY_TEMPLATE_ATTRIBUTE),
+                group: Group::Given(tags::PRIVATE_KEY_TEMPLATE_ATTRIBUTE),
                 fields: &[PRIVATE_NAME, PRIVATE_USAGE],
             },
             PartRow {
-                group: Some(tags::PUBLIC_KEY_TEMPLATE_ATTRIBUTE),
+                group: Group::Given(tags::PUBLIC_KEY_TEMPLATE_ATTRIBUTE),
                 fields: &[PUBLIC_NAME, PUBLIC_USAGE],
             },
         ],
@@ -234,11 +234,11 @@ const CALLS: &[OperationRow] = &[
         rest: Rest::Options,
         parts: &[
             PartRow {
-                group: None,
+                group: Group::Payload,
                 fields: &[SYMMETRIC_KEY],
             },
             PartRow {
-                group: Some(tags::TEMPLATE_ATTRIBUTE),
+                group: Group::Given(tags::TEMPLATE_ATTRIBUTE),
                 fields: &[KEY_ALGORITHM, KEY_BITS, KEY_NAME, KEY_USAGE],
             },
         ],
@@ -249,7 +249,7 @@ const CALLS: &[OperationRow] = &[
         words: 1,
         rest: Rest::Options,
         parts: &[PartRow {
-            group: None,
+            group: Group::Payload,
             fields: &[ID, COUNT_WANTED, USAGE_WANTED, LEASE_WANTED],
         }],
     },
@@ -273,7 +273,7 @@ const CALLS: &[OperationRow] = &[
         words: 2,
         rest: Rest::Options,
         parts: &[PartRow {
-            group: None,
+            group: Group::Payload,
             fields: &[ID, COUNT],
         }],
     },
@@ -297,7 +297,7 @@ const CALLS: &[OperationRow] = &[
         words: 1,
         rest: Rest::Words,
         parts: &[PartRow {
-            group: None,
+            group: Group::Payload,
             fields: &[ID, IDS],
         }],
     },
@@ -307,7 +307,7 @@ const CALLS: &[OperationRow] = &[
         words: 1,
         rest: Rest::Options,
         parts: &[PartRow {
-            group: None,
+            group: Group::Payload,
             fields: &[CORRELATION],
         }],
     },
@@ -317,7 +317,7 @@ const CALLS: &[OperationRow] = &[
         words: 1,
         rest: Rest::Options,
         parts: &[PartRow {
-            group: None,
+            group: Group::Payload,
             fields: &[CORRELATION],
         }],
     },
@@ -327,7 +327,7 @@ const CALLS: &[OperationRow] = &[
         words: 1,
         rest: Rest::Options,
         parts: &[PartRow {
-            group: None,
+            group: Group::Payload,
             fields: &[SEED],
         }],
     },

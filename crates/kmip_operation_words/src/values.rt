@@ -1,12 +1,13 @@
 //! The value that a word gives, by its kind.
-ghost use Rattle.std.specs.Prelude.{◌≡◌, map, pos, option_map, option_and_then, IfOk};
+ghost use Rattle.std.specs.Prelude.{◌≡◌, map, option_map, option_and_then, IfOk};
 ghost use Rattle.std.specs.Int.{cast_signed, w32};
 ghost use Rattle.kmip_codes.specs.UsageMask.{usage_bits};
 ghost use Rattle.kmip_encodings.specs.Names.{enumeration_number};
 ghost use Rattle.kmip_wire.specs.Tree.{scalar, integer, long_integer, enumeration, boolean};
 ghost use Rattle.kmip_wire.specs.Tree.{text_string, byte_string, date_time, interval};
 ghost use Rattle.kmip_request_words.specs.Keys.{uses_of};
-ghost use Rattle.kmip_request_words.specs.Values.{int_of, number_of, bytes_of, word_text};
+ghost use Rattle.kmip_request_words.specs.Values.{int_of, long_of, count_of, number_of};
+ghost use Rattle.kmip_request_words.specs.Values.{bytes_of, word_text};
 ghost use Rattle.kmip_request_words.specs.Words.{parts_between};
 ghost use Rattle.kmip_operation_words.specs.Values.{not_empty, truth_of, value_of};
 
@@ -14,7 +15,9 @@ use crate::rows::Kind;
 use bitflags::Flags;
 use kmip_codes::CryptographicUsageMask;
 use kmip_encodings::enumeration_number;
-use kmip_request_words::{bytes_of, int_of, number_of, parts_between, word_text};
+use kmip_request_words::{
+    bytes_of, count_of, int_of, long_of, number_of, parts_between, table_name, word_text,
+};
 use kmip_wire::{Node, OutOfMemory, Tag, Tree};
 use std::alloc::Global;
 
@@ -36,7 +39,7 @@ fn uses_of(names: &[&str]) -> Option<CryptographicUsageMask>
     match names {
         [] => Some(CryptographicUsageMask::from_bits_retain(0)),
         [first, rest @ ..] => {
-            let one = CryptographicUsageMask::from_name(first)?;
+            let one = CryptographicUsageMask::from_name(table_name(first))?;
             let mut uses = uses_of(rest)?;
             uses.insert(one);
             Some(uses)
@@ -92,6 +95,26 @@ fn bytes_item(alloc: Global, tag: Tag, word: &str) -> Result<Option<Tree>, OutOf
     }
 }
 
+/// Bytes, at least one.
+fn handle_item(alloc: Global, tag: Tag, word: &str) -> Result<Option<Tree>, OutOfMemory>
+    ensures { IfOk result (λ item. item ≡
+        option_map (λ bytes. scalar tag (byte_string bytes))
+        (option_and_then not_empty (bytes_of word.now))) }
+{
+    match bytes_of(alloc, word)? {
+        Some(bytes) => {
+            if bytes.as_slice().is_empty() {
+                return Ok(None);
+            }
+            Ok(Some(Tree {
+                tag,
+                node: Node::ByteString(bytes),
+            }))
+        }
+        None => Ok(None),
+    }
+}
+
 /// A mask of uses.
 fn uses_item(alloc: Global, tag: Tag, word: &str) -> Result<Option<Tree>, OutOfMemory>
     ensures { IfOk result (λ item. item ≡
@@ -118,17 +141,17 @@ fn int_item(tag: Tag, word: &str) -> Option<Tree>
 
 /// A number that is not negative, as a Long Integer.
 fn count_item(tag: Tag, word: &str) -> Option<Tree>
-    ensures { result ≡ option_map (λ n. scalar tag (long_integer (pos n))) (number_of word.now) }
+    ensures { result ≡ option_map (λ z. scalar tag (long_integer z)) (count_of word.now) }
 {
-    let node = Node::LongInteger(i64::from(number_of(word)?));
+    let node = Node::LongInteger(count_of(word)?);
     Some(Tree { tag, node })
 }
 
 /// A date.
 fn date_item(tag: Tag, word: &str) -> Option<Tree>
-    ensures { result ≡ option_map (λ n. scalar tag (date_time n)) (number_of word.now) }
+    ensures { result ≡ option_map (λ n. scalar tag (date_time n)) (long_of word.now) }
 {
-    let node = Node::DateTime(u64::from(number_of(word)?));
+    let node = Node::DateTime(long_of(word)?);
     Some(Tree { tag, node })
 }
 
@@ -173,6 +196,7 @@ pub fn value_item(
         Kind::Identifier => identifier_item(alloc, tag, word),
         Kind::Text => text_item(alloc, tag, word),
         Kind::Hex => bytes_item(alloc, tag, word),
+        Kind::Handle => handle_item(alloc, tag, word),
         Kind::Int => Ok(int_item(tag, word)),
         Kind::Count => Ok(count_item(tag, word)),
         Kind::Date => Ok(date_item(tag, word)),

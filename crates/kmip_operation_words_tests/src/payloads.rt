@@ -108,7 +108,7 @@ const NEW_OBJECTS: &[Row] = &[
     Row {
         words: "derive-key 3 HASH also=3 length=256",
         operation: Operation::DeriveKey,
-        payload: "79{57 e2,94 \"3\",94 \"3\",31 e2,91{08{0A \"Cryptographic Length\",0B i256}}}",
+        payload: "79{57 e2,94 \"3\",94 \"3\",31 e2,32{},91{08{0A \"Cryptographic Length\",0B i256}}}",
     },
     Row {
         words: "rekey 4",
@@ -156,6 +156,11 @@ const NEW_OBJECTS: &[Row] = &[
         payload: "79{1F{08{0A \"Cryptographic Algorithm\",0B e5},08{0A \"Cryptographic Length\",0B i2048}},65{08{0A \"Name\",0B{55 \"a\",54 e1}},08{0A \"Cryptographic Usage Mask\",0B i1}},6E{08{0A \"Name\",0B{55 \"b\",54 e1}},08{0A \"Cryptographic Usage Mask\",0B i2}}}",
     },
     Row {
+        words: "create-key HMAC_SHA256 256 m usage=MACGenerate,MACVerify,CRLSign",
+        operation: Operation::Create,
+        payload: "79{57 e2,91{08{0A \"Cryptographic Algorithm\",0B e9},08{0A \"Cryptographic Length\",0B i256},08{0A \"Name\",0B{55 \"m\",54 e1}},08{0A \"Cryptographic Usage Mask\",0B i8576}}}",
+    },
+    Row {
         words: "create-key HMAC_SHA256 256 m usage=MacGenerate,MacVerify",
         operation: Operation::Create,
         payload: "79{57 e2,91{08{0A \"Cryptographic Algorithm\",0B e9},08{0A \"Cryptographic Length\",0B i256},08{0A \"Name\",0B{55 \"m\",54 e1}},08{0A \"Cryptographic Usage Mask\",0B i384}}}",
@@ -177,6 +182,16 @@ const OTHERS: &[Row] = &[
         words: "lease 5",
         operation: Operation::ObtainLease,
         payload: "79{94 \"5\"}",
+    },
+    Row {
+        words: "usage-allocation 5 9223372036854775807",
+        operation: Operation::GetUsageAllocation,
+        payload: "79{94 \"5\",96 l9223372036854775807}",
+    },
+    Row {
+        words: "check 5 count=4294967296",
+        operation: Operation::Check,
+        payload: "79{94 \"5\",96 l4294967296}",
     },
     Row {
         words: "usage-allocation 5 4294967295",

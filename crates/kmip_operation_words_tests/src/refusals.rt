@@ -47,12 +47,16 @@ const NO_CALLS: &[&str] = &[
     "check 5 usage=",
     "usage-allocation 5",
     "usage-allocation 5 -1",
+    "usage-allocation 5 9223372036854775808",
+    "check 5 count=18446744073709551616",
     "archive",
     "archive 5 6",
     "validate",
     "validate 5 -",
     "cancel 0",
+    "cancel -",
     "poll",
+    "poll -",
 ];
 
 #[test]
@@ -90,6 +94,10 @@ const SENTENCES: &[Sentence] = &[
     Sentence {
         words: "archive 5 6",
         refusal: "archive: a word is no option of it, or an option is given twice; its form is: archive ID",
+    },
+    Sentence {
+        words: "poll -",
+        refusal: "poll: HEX has to be an even number of hex digits, at least two; its form is: poll HEX",
     },
     Sentence {
         words: "validate",

@@ -1,13 +1,16 @@
 -- What bytes answer to a typed call, also where its tables have no words for the payload: an object
 -- or an attribute of a kind that they lack (KMIP 1.0, 4.10 Get and 4.11 Get Attributes).
-use Rattle.std.specs.Prelude.{◌≡◌, ℕ, List, take, Bool, true, false, Option, Some, None, Result, Ok, Err, codes, bytes_eq, if◌then◌else◌}
+use Rattle.std.specs.Prelude.{◌≡◌, ◌&&◌, ℕ, List, [], ◌∷◌, take, is_some, Bool, true, false, Option, Some, None, Result, Ok, Err, codes, bytes_eq, if◌then◌else◌}
+use Rattle.std.specs.List.{list_any}
 use Rattle.std.specs.Option.{option_and_then}
 use Rattle.std.specs.Result.{result_ok}
+use Rattle.kmip_tags.specs.Tags as tags
 use Rattle.kmip_tags.specs.Tags.{UNIQUE_IDENTIFIER}
 use Rattle.kmip_wire.specs.Tree.{Tree}
 use Rattle.kmip_wire.specs.Parts.{text_in}
 use Rattle.kmip_request.specs.declared.payload.RequestPayload.{RequestPayload}
 use Rattle.kmip_enums.specs.declared.operation.Operation.{Operation}
+use Rattle.kmip_enums.specs.declared.operation.Operation.TheVariants as operations
 use Rattle.kmip_plain.specs.declared.payload.PayloadForm.TheVariants.{Tree as AsTree}
 use Rattle.kmip_client.specs.Message.{Message, message_at, taken_for}
 use Rattle.kmip_client.specs.Outcome.{Answer, answer_by, answer_of}
@@ -37,12 +40,32 @@ abbrev pub is_unread : Answer → Bool
 is_unread (Err (InternalError text)) = bytes_eq text (codes "not a response message")
 is_unread answer = false
 
+-- the tags of objects (KMIP 1.2, 2.2), and that of a certificate request, an object since KMIP 2.0
+abbrev pub object_tags : List ℕ
+object_tags =
+    tags.CERTIFICATE ∷ tags.SYMMETRIC_KEY ∷ tags.PUBLIC_KEY ∷ tags.PRIVATE_KEY ∷ tags.SPLIT_KEY
+    ∷ tags.TEMPLATE ∷ tags.SECRET_DATA ∷ tags.OPAQUE_OBJECT ∷ tags.PGP_KEY
+    ∷ tags.CERTIFICATE_REQUEST ∷ []
+
+abbrev pub has_item : Tree → ℕ → Bool
+has_item payload tag = is_some (item_with tag payload)
+
+-- whether a payload has what the operation fetches: that of Get a type and an object (KMIP 1.0, 4.10)
+abbrev pub has_fetched : Operation → Tree → Bool
+has_fetched operations.Get payload =
+    has_item payload tags.OBJECT_TYPE && list_any (has_item payload) object_tags
+has_fetched operation payload = true
+
+abbrev pub if_fetched : Operation → Tree → Option Tree
+if_fetched operation payload = if has_fetched operation payload then Some payload else None
+
 -- the payload of a success of this operation, as a tree, where the typed reading has no words for
--- the message
+-- the message, and the payload has what is fetched
 abbrev pub unread_payload : Operation → Message → Option Tree
 unread_payload operation here =
     if is_unread (answer_of operation here)
-    then result_ok (answer_by (identified_answer operation None) here)
+    then option_and_then (if_fetched operation)
+    (result_ok (answer_by (identified_answer operation None) here))
     else None
 
 -- such a payload, where the call fetches

@@ -2,8 +2,8 @@
 -- payload in JSON or XML; and a message in JSON or XML.
 use Rattle.std.specs.Prelude.{◌≡◌, ℕ, ◌==◌, ◌&&◌, ◌||◌, Bool, true, false, List, length, codes, Option, Some, None, if◌then◌else◌, bytes_eq}
 use Rattle.std.specs.Option.{option_and_then}
-use Rattle.kmip_tags.specs.Tags.{OPERATION, REQUEST_MESSAGE, REQUEST_PAYLOAD, UNIQUE_IDENTIFIER}
-use Rattle.kmip_wire.specs.Tree.{Tree, Trees, Scalar, scalar, structure, none, more, text_string}
+use Rattle.kmip_tags.specs.Tags.{OPERATION, REQUEST_MESSAGE, REQUEST_PAYLOAD, UNIQUE_IDENTIFIER, PRIVATE_KEY_UNIQUE_IDENTIFIER, PUBLIC_KEY_UNIQUE_IDENTIFIER, LINKED_OBJECT_IDENTIFIER, REPLACED_UNIQUE_IDENTIFIER, ASYNCHRONOUS_CORRELATION_VALUE}
+use Rattle.kmip_wire.specs.Tree.{Tree, Trees, Scalar, scalar, structure, none, more, text_string, byte_string}
 use Rattle.kmip_shape.specs.Enumerations.{variant_at}
 use Rattle.kmip_enums.specs.Operations.{operation_line, operation_variants}
 use Rattle.kmip_enums.specs.declared.operation.Operation.{Operation}
@@ -46,9 +46,20 @@ is_structure wanted (scalar tag value) = false
 abbrev pub IsStructureText : ℕ → List ℕ → Tree → Type 0
 IsStructureText wanted text tree = Means text tree × (is_structure wanted tree ≡ true)
 
--- whether an item is an empty Unique Identifier, which a server may take for that of another object
+-- the tags under which the identifier of an object stands
+abbrev pub is_identifier : ℕ → Bool
+is_identifier tag =
+    tag == UNIQUE_IDENTIFIER
+    || (tag == PRIVATE_KEY_UNIQUE_IDENTIFIER
+    || (tag == PUBLIC_KEY_UNIQUE_IDENTIFIER
+    || (tag == LINKED_OBJECT_IDENTIFIER || tag == REPLACED_UNIQUE_IDENTIFIER)))
+
+-- whether an item is an empty identifier, which a server may take for that of another object, or an
+-- empty handle of an operation that has not ended (KMIP 1.0, 6.8)
 abbrev pub is_empty_identifier : ℕ → Scalar → Bool
-is_empty_identifier tag (text_string text) = tag == UNIQUE_IDENTIFIER && length text == 0
+is_empty_identifier tag (text_string text) = is_identifier tag && length text == 0
+is_empty_identifier tag (byte_string bytes) =
+    tag == ASYNCHRONOUS_CORRELATION_VALUE && length bytes == 0
 is_empty_identifier tag value = false
 
 -- whether a payload has one in it, at whatever depth
@@ -62,8 +73,8 @@ abbrev mutual
   have_empty_identifier (more item items) =
       has_empty_identifier item || have_empty_identifier items
 
--- the text is the JSON or XML of the payload of a request (KMIP 1.0, 9.1.3.1) in which no identifier is
--- empty
+-- the text is the JSON or XML of the payload of a request (KMIP 1.0, 9.1.3.1) in which no identifier
+-- and no handle is empty
 abbrev pub IsPayloadText : List ℕ → Tree → Type 0
 IsPayloadText text tree =
     IsStructureText REQUEST_PAYLOAD text tree × (has_empty_identifier tree ≡ false)

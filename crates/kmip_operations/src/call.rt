@@ -4,13 +4,18 @@ ghost use Rattle.std.specs.Prelude.{◌≡◌, IfOk, MatchOption, Result, option
 ghost use Rattle.kmip_wire.specs.Tree.{Tree as TheTree, trees_of};
 ghost use Rattle.kmip_client.specs.Operation.{TreeRequest};
 ghost use Rattle.kmip_operations.specs.Calls.{operation_named, version_written, is_structure};
-ghost use Rattle.kmip_operations.specs.Calls.{has_empty_identifier, have_empty_identifier};
+ghost use Rattle.kmip_operations.specs.Calls.{is_identifier, has_empty_identifier};
+ghost use Rattle.kmip_operations.specs.Calls.{have_empty_identifier};
 ghost use Rattle.kmip_operations.specs.Calls.{IsStructureText, IsPayloadText, Asks, request_of};
 
 use kmip_client::Version;
 use kmip_encodings::{EncodingError, enumeration_number};
 use kmip_enums::{Enumeration, Operation};
-use kmip_tags::tags::{OPERATION, REQUEST_PAYLOAD, UNIQUE_IDENTIFIER};
+use kmip_tags::tags::{
+    ASYNCHRONOUS_CORRELATION_VALUE, LINKED_OBJECT_IDENTIFIER, OPERATION,
+    PRIVATE_KEY_UNIQUE_IDENTIFIER, PUBLIC_KEY_UNIQUE_IDENTIFIER, REPLACED_UNIQUE_IDENTIFIER,
+    REQUEST_PAYLOAD, UNIQUE_IDENTIFIER,
+};
 use kmip_wire::{Blob, Node, OutOfMemory, Tag, Tree};
 use kmip_xml::{TextError, XmlError, from_text};
 use std::alloc::Global;
@@ -96,14 +101,26 @@ pub fn structure_of(alloc: Global, text: &str, tag: u32) -> Result<Option<Tree>,
     }
 }
 
-/// Whether an item is an empty Unique Identifier, or one stands in it at whatever depth.
+/// Whether the identifier of an object stands under a tag.
+fn is_identifier(tag: u32) -> bool
+    ensures { result ≡ is_identifier tag }
+{
+    tag == UNIQUE_IDENTIFIER
+        || tag == PRIVATE_KEY_UNIQUE_IDENTIFIER
+        || tag == PUBLIC_KEY_UNIQUE_IDENTIFIER
+        || tag == LINKED_OBJECT_IDENTIFIER
+        || tag == REPLACED_UNIQUE_IDENTIFIER
+}
+
+/// Whether an item is an empty identifier or handle, or one stands in it at whatever depth.
 #[cycle(identifiers)]
 fn has_empty_identifier(tree: &Tree) -> bool
     ensures { result ≡ has_empty_identifier tree.now }
 {
     match &tree.node {
-        Node::TextString(text) => {
-            tree.tag.number() == UNIQUE_IDENTIFIER && text.as_str().is_empty()
+        Node::TextString(text) => is_identifier(tree.tag.number()) && text.as_str().is_empty(),
+        Node::ByteString(bytes) => {
+            tree.tag.number() == ASYNCHRONOUS_CORRELATION_VALUE && bytes.as_slice().is_empty()
         }
         Node::Structure(items) => have_empty_identifier(items.as_slice()),
         _ => false,
@@ -123,7 +140,7 @@ fn have_empty_identifier(items: &[Tree]) -> bool
     false
 }
 
-/// The payload whose JSON or XML a text is, and in which no identifier is empty.
+/// The payload whose JSON or XML a text is, and in which no identifier or handle is empty.
 pub(crate) fn payload_of(alloc: Global, text: &str) -> Result<Option<Tree>, OutOfMemory>
     ensures { IfOk result (λ tree. MatchOption tree
         ((t : TheTree) → IsPayloadText text.now t → ⊥) (IsPayloadText text.now)) }
@@ -137,13 +154,14 @@ pub(crate) fn payload_of(alloc: Global, text: &str) -> Result<Option<Tree>, OutO
     Ok(Some(payload))
 }
 
-/// The call of an operation. `name` is the operation's name, as `Encrypt`, `Rekey` or
-/// `MACVerify`; `version` is `1.0`, `1.1` or `1.2`; `payload` is the JSON, or where its first mark is
-/// `<` the XML, of a structure with the tag `RequestPayload`, as kmip_xml's `from_text` reads it: any
-/// of the names, types and values that it has, in at most 64 levels, and with no empty Unique
-/// Identifier anywhere in it, which a server may take for that of another object: who means one
-/// sends a message. `None` exactly where one of the three is not so. `id` is the Unique Batch Item ID of the request (KMIP 1.0, 6.4), whatever its
-/// bytes; `operation_answer` says which responses are then the call's.
+/// The call of an operation. `name` is the operation's name, as `Encrypt`, `Rekey` or `MACVerify`;
+/// `version` is `1.0`, `1.1` or `1.2`; `payload` is the JSON, or where its first mark is `<` the
+/// XML, of a structure with the tag `RequestPayload`, as kmip_xml's `from_text` reads it: any of
+/// the names, types and values that it has, in at most 64 levels, and with no empty identifier
+/// anywhere in it, which a server may take for that of another object, and no empty Asynchronous
+/// Correlation Value: who means one sends a message. `None` exactly where one of the three is not
+/// so. `id` is the Unique Batch Item ID of the request (KMIP 1.0, 6.4), whatever its bytes;
+/// `operation_answer` says which responses are then the call's.
 pub fn operation_call(
     alloc: Global,
     name: &str,

@@ -2,7 +2,7 @@
 ghost use Rattle.std.specs.Prelude.{◌≡◌, ◌≢◌, ◌≤◌, ◌==◌, ℕ, length, take, true, false, codes};
 ghost use Rattle.std.specs.Prelude.{Some, None, Err, option_map, option_copied};
 ghost use Rattle.std.specs.Prelude.{IfOk, OnOk, IfSome, MatchOption};
-ghost use Rattle.std.specs.List.{find};
+ghost use Rattle.std.specs.List.{find, list_any};
 ghost use Rattle.std.specs.Result.{result_ok};
 ghost use Rattle.kmip_wire.specs.Parts.{tag_of, text_in};
 ghost use Rattle.kmip_wire.specs.Sees.{tree_of_node};
@@ -20,6 +20,7 @@ ghost use Rattle.kmip_words.specs.declared.call.Call.TheVariants.{Request};
 ghost use Rattle.kmip_words.specs.declared.ending.Ending.TheVariants.{Lost};
 ghost use Rattle.kmip_operations.specs.Answers.{tree_line};
 ghost use Rattle.kmip_operations.specs.AnyPayload.{is_fetch, is_unread, unread_payload};
+ghost use Rattle.kmip_operations.specs.AnyPayload.{object_tags, has_item, has_fetched};
 ghost use Rattle.kmip_operations.specs.AnyPayload.{fetched_payload, first_identifier, AnswersWith};
 ghost use Rattle.kmip_operations.specs.AnyPayload.{call_line, call_ending};
 ghost use Rattle.kmip_operations.specs.JsonLines.{IsTextLine};
@@ -30,7 +31,10 @@ use kmip_enums::Operation;
 use kmip_plain::PayloadForm;
 use kmip_request::RequestPayload;
 use kmip_response::ResponsePayload;
-use kmip_tags::tags::UNIQUE_IDENTIFIER;
+use kmip_tags::tags::{
+    CERTIFICATE, CERTIFICATE_REQUEST, OBJECT_TYPE, OPAQUE_OBJECT, PGP_KEY, PRIVATE_KEY, PUBLIC_KEY,
+    SECRET_DATA, SPLIT_KEY, SYMMETRIC_KEY, TEMPLATE, UNIQUE_IDENTIFIER,
+};
 use kmip_types::UniqueIdentifier;
 use kmip_wire::{Node, OutOfMemory, Text, Tree};
 use kmip_words::{Call, Ending, Settings, answer_of};
@@ -182,26 +186,6 @@ fn payload_in(reading: Reading<Tree>) -> Result<Option<Payload>, OutOfMemory>
     }
 }
 
-/// The payload of a success of this operation, as a tree, where the typed reading has no words for
-/// the message at the front of a response.
-fn unread_payload(
-    alloc: Global,
-    settings: &Settings,
-    operation: Operation,
-    response: &[u8],
-) -> Result<Option<Payload>, OutOfMemory>
-    ensures payload { IfOk result (λ found. option_map (λ found. found.payload) found ≡
-        unread_payload operation (message_at response.now settings.now.limit)) }
-    ensures taken { IfOk result (λ found. IfSome found (λ found. found.taken ≡
-        taken_for response.now (message_at response.now settings.now.limit))) }
-{
-    if !is_past_tables(alloc, settings, operation, response)? {
-        return Ok(None);
-    }
-    let limit = settings.limit();
-    payload_in(read_operation_response(alloc, operation, None, response, limit))
-}
-
 /// Whether an item has this tag.
 fn has_tag(item: &Tree, tag: u32) -> bool
     ensures { result ≡ (tag_of item.now == tag) }
@@ -223,6 +207,82 @@ fn item_with(payload: &Tree, tag: u32) -> Option<&Tree>
     match &payload.node {
         Node::Structure(items) => first_with(items.as_slice(), tag),
         _ => None,
+    }
+}
+
+/// The tags of objects: KMIP 1.2, 2.2, and that of a certificate request, an object since KMIP 2.0.
+const OBJECTS: &[u32] = &[
+    CERTIFICATE,
+    SYMMETRIC_KEY,
+    PUBLIC_KEY,
+    PRIVATE_KEY,
+    SPLIT_KEY,
+    TEMPLATE,
+    SECRET_DATA,
+    OPAQUE_OBJECT,
+    PGP_KEY,
+    CERTIFICATE_REQUEST,
+];
+
+/// The tags of objects, which are those of specs.
+fn object_tags() -> &'static [u32]
+    ensures { result.now ≡ object_tags }
+{
+    OBJECTS
+}
+
+/// Whether a payload has an item with this tag.
+fn has_item(payload: &Tree, tag: u32) -> bool
+    ensures { result ≡ has_item payload.now tag }
+{
+    item_with(payload, tag).is_some()
+}
+
+/// Whether a payload has an item with one of these tags.
+fn has_one(payload: &Tree, tags: &[u32]) -> bool
+    ensures { result ≡ list_any (has_item payload.now) tags.now }
+{
+    match tags {
+        [] => false,
+        [first, rest @ ..] => has_item(payload, *first) || has_one(payload, rest),
+    }
+}
+
+/// Whether a payload has what the operation fetches: that of Get a type and an object.
+fn has_fetched(operation: Operation, payload: &Tree) -> bool
+    ensures { result ≡ has_fetched operation payload.now }
+{
+    match operation {
+        Operation::Get => has_item(payload, OBJECT_TYPE) && has_one(payload, object_tags()),
+        _ => true,
+    }
+}
+
+/// The payload of a success of this operation, as a tree, where the typed reading has no words for
+/// the message at the front of a response, and the payload has what is fetched.
+fn unread_payload(
+    alloc: Global,
+    settings: &Settings,
+    operation: Operation,
+    response: &[u8],
+) -> Result<Option<Payload>, OutOfMemory>
+    ensures payload { IfOk result (λ found. option_map (λ found. found.payload) found ≡
+        unread_payload operation (message_at response.now settings.now.limit)) }
+    ensures taken { IfOk result (λ found. IfSome found (λ found. found.taken ≡
+        taken_for response.now (message_at response.now settings.now.limit))) }
+{
+    if !is_past_tables(alloc, settings, operation, response)? {
+        return Ok(None);
+    }
+    let limit = settings.limit();
+    let reading = read_operation_response(alloc, operation, None, response, limit);
+    let Some(found) = payload_in(reading)? else {
+        return Ok(None);
+    };
+    if has_fetched(operation, &found.payload) {
+        Ok(Some(found))
+    } else {
+        Ok(None)
     }
 }
 
@@ -344,10 +404,10 @@ fn table_answer(
 
 /// The answer that these bytes are to a typed call, as a line of JSON, and how the call ended: what
 /// `answer_of` of kmip_words adds, but for a success of Get or Get Attributes that its tables have
-/// no words for, as a key of EC. Its payload is answered as a tree, as `operation_answer` does with
-/// `PayloadForm::Tree`; where its first Unique Identifier is another than the call asked about, the
-/// line has the error `InternalError`, and the call ended as `Lost`. What was to be wrapped is not
-/// answered so.
+/// no words for, as a key of EC, where that of Get has an object and its type. Its payload is
+/// answered as a tree, as `operation_answer` does with `PayloadForm::Tree`; where its first Unique
+/// Identifier is another than the call asked about, the line has the error `InternalError`, and the
+/// call ended as `Lost`. What was to be wrapped is not answered so.
 ///
 /// It depends on no byte after the first message.
 pub fn call_answer(

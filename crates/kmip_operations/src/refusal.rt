@@ -40,7 +40,7 @@ fn why_not(
 
 fn why_no_payload(alloc: Global, text: &str) -> Result<Text, OutOfMemory> {
     let other = "the outermost item is no Structure with the tag RequestPayload";
-    let within = "a UniqueIdentifier in it is empty";
+    let within = "an identifier or an AsynchronousCorrelationValue in it is empty";
     why_not(alloc, text, REQUEST_PAYLOAD, other, within)
 }
 
@@ -49,7 +49,7 @@ fn why_no_message(alloc: Global, text: &str) -> Result<Text, OutOfMemory> {
     why_not(alloc, text, REQUEST_MESSAGE, other, other)
 }
 
-/// Why a text is not the JSON or XML of a RequestPayload, or has an empty Unique Identifier; `None`
+/// Why a text is not the JSON or XML of a RequestPayload, or has an empty identifier; `None`
 /// exactly where `operation_call` takes it.
 pub fn payload_refusal(alloc: Global, text: &str) -> Result<Option<Text>, OutOfMemory>
     ensures { IfOk result (λ why. MatchOption why ((t : TheTree) × IsPayloadText text.now t)

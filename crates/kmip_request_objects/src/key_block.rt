@@ -31,7 +31,8 @@ type KeyValueRows = Row<One<KeyMaterial, KEY_MATERIAL>, Row<OptMany<Attribute, A
 
 impl TryClone for KeyValue {
     fn try_clone(&self, alloc: Global) -> Result<KeyValue, OutOfMemory> {
-        Ok(KeyValue(self.0.try_clone(alloc)?, clone_optional(&self.1, alloc)?))
+        let attributes = clone_optional(&self.1, alloc)?;
+        Ok(KeyValue(self.0.try_clone(alloc)?, attributes))
     }
 }
 

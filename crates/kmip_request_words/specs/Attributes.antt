@@ -10,7 +10,7 @@ use Rattle.kmip_request.specs.Constructors.{attribute_of}
 use Rattle.kmip_request.specs.TheAttribute.{Attribute}
 use Rattle.kmip_request_words.specs.Coded.{variant_named}
 use Rattle.kmip_request_words.specs.Requests.{name_attribute}
-use Rattle.kmip_request_words.specs.Values.{int_of, number_of, word_text}
+use Rattle.kmip_request_words.specs.Values.{int_of, long_of, word_text}
 use Rattle.kmip_request_words.specs.Words.{parts_between}
 
 -- an attribute whose value is a text (KMIP 1.0, 3.2, 3.28 and 3.31)
@@ -43,7 +43,7 @@ attribute_given option value =
     (int_of value)
     else if bytes_eq option (codes "activation")
     then option_map (λ n. attribute_of (codes "Activation Date") (values.DateTime n))
-    (number_of value)
+    (long_of value)
     else text_attribute option (word_text value)
 
 -- an option and its value, with `=` between the two

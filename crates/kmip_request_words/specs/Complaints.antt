@@ -3,7 +3,7 @@ use Rattle.std.specs.Prelude.{ℕ, nat_eq, Bool, true, false, ◌||◌, ◌==◌
 use Rattle.std.specs.List.{find, list_any, starts_with}
 use Rattle.kmip_request_words.specs.Asked.{after_where}
 use Rattle.kmip_request_words.specs.Grammar.{WordRow, OptionRow, CallRow, attributes, word, row_of}
-use Rattle.kmip_request_words.specs.Kinds.{is_listed, takes, wanted}
+use Rattle.kmip_request_words.specs.Kinds.{takes, wanted}
 use Rattle.kmip_request_words.specs.Options.{value_given}
 use Rattle.kmip_request_words.specs.Refusals.{why_refused}
 use Rattle.kmip_request_words.specs.declared.grammar.Kind.{Kind}
@@ -34,27 +34,25 @@ or_else None other = other
 abbrev pub not_of : List ℕ → List ℕ → Kind → List ℕ
 not_of call word kind = call ++ (codes ": " ++ (word ++ (codes " " ++ wanted kind)))
 
--- `sign: hash=sha384 is none of MD2, ..`: the word is shown where it is to be one of several names,
--- and else the option alone
-abbrev pub wrong_value : List ℕ → OptionRow → List ℕ → List ℕ → Option (List ℕ)
-wrong_value call option word value =
-    if takes option.kind value then None
-    else Some (not_of call (if is_listed option.kind then word else option.name) option.kind)
+-- `sign: hash= is none of MD2, ..`: the option is shown and no value, since it may be a password that
+-- stands in a wrong place
+abbrev pub wrong_value : List ℕ → OptionRow → List ℕ → Option (List ℕ)
+wrong_value call option value =
+    if takes option.kind value then None else Some (not_of call option.name option.kind)
 
 abbrev pub twice_equals : List ℕ → List ℕ → List ℕ
 twice_equals call name =
     ((call ++ codes ": ") ++ name) ++ codes " has another = in its value, which is written %3D"
 
-abbrev pub wrong_attribute_value : List ℕ → OptionRow → List ℕ → Option (List ℕ) →
-    Option (List ℕ)
-wrong_attribute_value call option word (Some value) =
+abbrev pub wrong_attribute_value : List ℕ → OptionRow → Option (List ℕ) → Option (List ℕ)
+wrong_attribute_value call option (Some value) =
     if has_equals value then Some (twice_equals call option.name)
-    else wrong_value call option word value
-wrong_attribute_value call option word None = None
+    else wrong_value call option value
+wrong_attribute_value call option None = None
 
 abbrev pub wrong_attribute_in : List ℕ → List ℕ → List ℕ → Option OptionRow → Option (List ℕ)
 wrong_attribute_in call name word (Some option) =
-    wrong_attribute_value call option word (value_after option.name word)
+    wrong_attribute_value call option (value_after option.name word)
 wrong_attribute_in call name word None = Some (not_of call name kinds.Attribute)
 
 -- a word that is to be an attribute with its value
@@ -144,13 +142,13 @@ is_twice name (word ∷ words) =
 abbrev pub word_with : List ℕ → List (List ℕ) → Option (List ℕ)
 word_with name words = find (λ word. is_some (value_after name word)) words
 
-abbrev pub wrong_value_in : List ℕ → OptionRow → List ℕ → Option (List ℕ) → Option (List ℕ)
-wrong_value_in call option word (Some value) = wrong_value call option word value
-wrong_value_in call option word None = None
+abbrev pub wrong_value_in : List ℕ → OptionRow → Option (List ℕ) → Option (List ℕ)
+wrong_value_in call option (Some value) = wrong_value call option value
+wrong_value_in call option None = None
 
 abbrev pub wrong_given : List ℕ → OptionRow → List ℕ → Option (List ℕ)
 wrong_given call option word =
-    wrong_value_in call option word (value_after option.name word)
+    wrong_value_in call option (value_after option.name word)
 
 abbrev pub wrong_if_given : List ℕ → OptionRow → Option (List ℕ) → Option (List ℕ)
 wrong_if_given call option (Some word) = wrong_given call option word

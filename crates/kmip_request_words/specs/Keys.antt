@@ -29,10 +29,18 @@ abbrev pub with_use : Option ℕ → Option ℕ → Option ℕ
 with_use (Some bit) (Some bits) = Some (bit_or bits bit)
 with_use bit bits = None
 
+-- the name of a use as the table writes it: OASIS writes three of them in capitals
+abbrev pub table_name : List ℕ → List ℕ
+table_name name =
+    if bytes_eq name (codes "MACGenerate") then codes "MacGenerate"
+    else if bytes_eq name (codes "MACVerify") then codes "MacVerify"
+    else if bytes_eq name (codes "CRLSign") then codes "CrlSign"
+    else name
+
 -- the bits of these uses together (KMIP 1.2, 9.1.3.3.1)
 abbrev pub uses_of : List (List ℕ) → Option ℕ
 uses_of [] = Some 0
-uses_of (name ∷ names) = with_use (find_name usages name) (uses_of names)
+uses_of (name ∷ names) = with_use (find_name usages (table_name name)) (uses_of names)
 
 -- the uses that an option names, with `,` between two, and else these
 abbrev pub uses_or : ℕ → Option (List ℕ) → Option ℕ

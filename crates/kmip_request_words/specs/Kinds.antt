@@ -11,7 +11,8 @@ use Rattle.kmip_types.specs.KeyFormatTypes.{key_format_type_line, key_format_typ
 use Rattle.kmip_types.specs.PaddingMethods.{padding_method_line, padding_method_variants}
 use Rattle.kmip_types.specs.UsageMask.{usages}
 use Rattle.kmip_request_words.specs.Grammar.{attributes}
-use Rattle.kmip_request_words.specs.Values.{int_of, number_of, bytes_of, word_text}
+use Rattle.kmip_request_words.specs.Keys.{table_name}
+use Rattle.kmip_request_words.specs.Values.{int_of, long_of, bytes_of, word_text}
 use Rattle.kmip_request_words.specs.Words.{parts_between}
 use Rattle.kmip_request_words.specs.declared.grammar.Kind.{Kind}
 use Rattle.kmip_request_words.specs.declared.grammar.Kind.TheVariants.{Identifier, Text, Int, Seconds, Hex, Request, Algorithm, Format, Hash, Padding, Reason, ObjectType, State, KeyKind, Uses, Flag, Attribute, Operation, Version, Payload, Message}
@@ -39,8 +40,9 @@ names_of kind = []
 abbrev pub is_among : List (List ℕ) → List ℕ → Bool
 is_among names word = list_any (λ name. bytes_eq name word) names
 
+-- whether each word is one of these names of uses, in the table's spelling or OASIS's
 abbrev pub are_among : List (List ℕ) → List (List ℕ) → Bool
-are_among names words = list_all (is_among names) words
+are_among names words = list_all (λ word. is_among names (table_name word)) words
 
 -- names of uses, with `,` between two
 abbrev pub are_uses : List ℕ → Bool
@@ -65,7 +67,7 @@ abbrev pub takes : Kind → List ℕ → Bool
 takes Identifier word = is_some (word_text word)
 takes Text word = is_some (word_text word)
 takes Int word = is_some (int_of word)
-takes Seconds word = is_some (number_of word)
+takes Seconds word = is_some (long_of word)
 takes Hex word = is_some (bytes_of word)
 takes Request word = is_some (bytes_of word)
 takes Flag word = length word == 0
@@ -83,7 +85,7 @@ listed (name ∷ names) = name ++ (codes ", " ++ listed names)
 
 abbrev pub plain_wanted : Kind → List ℕ
 plain_wanted Int = codes "is no number from -2147483648 to 2147483647 in decimal digits"
-plain_wanted Seconds = codes "is no number from 0 to 4294967295 in decimal digits"
+plain_wanted Seconds = codes "is no number from 0 to 9223372036854775807 in decimal digits"
 plain_wanted Hex = codes "is no even number of hex digits, and not - for no bytes"
 plain_wanted Request = codes "is no even number of hex digits, and not - for no bytes"
 plain_wanted Flag = codes "stands alone, with nothing after it"

@@ -14,7 +14,7 @@ use crate::coded::{ALGORITHMS, FORMATS, coded_given};
 use crate::given::text_given;
 use crate::keys::key_asked;
 use crate::options::{are_options, value_given};
-use crate::values::{bytes_of, int_of, number_of, word_text};
+use crate::values::{bytes_of, int_of, long_of, word_text};
 use kmip_enums::RevocationReasonCode;
 use kmip_request::{
     Attribute, EncryptionKeyInformation, KeyWrappingSpecification, RequestPayload, RevocationReason,
@@ -68,15 +68,12 @@ pub const REASONS: &[RevocationReasonCode] = &[
 ];
 
 /// The date of a compromise, in seconds since 1970-01-01 UTC, where words give one; `None` where it
-/// is no number from 0 to 2^32 - 1.
+/// is no number from 0 to 2^63 - 1.
 fn since_given(words: &[Text]) -> Option<Option<CompromiseOccurrenceDate>>
     ensures { result ≡ asked.since_given words.now }
 {
     match value_given("since=", words) {
-        Some(value) => {
-            let date = u64::from(number_of(value)?);
-            Some(Some(CompromiseOccurrenceDate(date)))
-        }
+        Some(value) => { Some(Some(CompromiseOccurrenceDate(long_of(value)?))) }
         None => Some(None),
     }
 }

@@ -7,12 +7,12 @@ ghost use Rattle.kmip_enums.specs.States.{state_line, state_variants};
 ghost use Rattle.kmip_types.specs.CryptographicAlgorithms.{cryptographic_algorithm_line};
 ghost use Rattle.kmip_types.specs.CryptographicAlgorithms.{cryptographic_algorithm_variants};
 ghost use Rattle.kmip_request_words.specs.Coded.{variant_named};
-ghost use Rattle.kmip_request_words.specs.Values.{int_of, number_of, word_text};
+ghost use Rattle.kmip_request_words.specs.Values.{int_of, long_of, word_text};
 ghost use Rattle.kmip_request_words.specs.Attributes.{text_attribute, attribute_given, attribute_of_parts};
 ghost use Rattle.kmip_request_words.specs.Attributes.{attribute_in, attribute_name, all_of};
 
 use crate::coded::{ALGORITHMS, variant_named};
-use crate::values::{int_of, number_of, word_text};
+use crate::values::{int_of, long_of, word_text};
 use crate::words::parts_between;
 use kmip_enums::{ObjectType, State};
 use kmip_request::Attribute;
@@ -118,10 +118,10 @@ fn length_attribute(alloc: Global, value: &str) -> Result<Option<Attribute>, Out
 fn activation_attribute(alloc: Global, value: &str) -> Result<Option<Attribute>, OutOfMemory>
     ensures { IfOk result (λ made. made ≡
         option_map (λ n. attribute_of (codes "Activation Date") (values.DateTime n))
-        (number_of value.now)) }
+        (long_of value.now)) }
 {
-    match number_of(value) {
-        Some(date) => Ok(Some(Attribute::ActivationDate(alloc, u64::from(date))?)),
+    match long_of(value) {
+        Some(date) => Ok(Some(Attribute::ActivationDate(alloc, date)?)),
         None => Ok(None),
     }
 }

@@ -5,7 +5,7 @@ ghost use Rattle.kmip_request_words.specs.Complaints as complaints;
 
 use crate::asked::after_where;
 use crate::grammar::{CallRow, Kind, OptionRow, Rest, WordRow, attribute_rows, row_of};
-use crate::kinds::{is_listed, push_wanted, takes};
+use crate::kinds::{push_wanted, takes};
 use crate::options::value_given;
 use crate::refusals::why_refused;
 use kmip_wire::{OutOfMemory, Text};
@@ -58,27 +58,21 @@ fn not_of(alloc: Global, call: &str, word: &str, kind: Kind) -> Result<Text, Out
     Ok(text)
 }
 
-/// What is wrong with the value of an option. The word is shown where it is to be one of several
-/// names, and else the option alone.
+/// What is wrong with the value of an option. The option is shown and no value, since it may be a
+/// password that stands in a wrong place.
 fn wrong_value(
     alloc: Global,
     call: &str,
     option: &OptionRow,
-    word: &str,
     value: &str,
 ) -> Result<Option<Text>, OutOfMemory>
     ensures { IfOk result (λ text. text ≡
-        complaints.wrong_value call.now (option_view option.now) word.now value.now) }
+        complaints.wrong_value call.now (option_view option.now) value.now) }
 {
     if takes(alloc, option.kind, value)? {
         return Ok(None);
     }
-    let shown = if is_listed(option.kind) {
-        word
-    } else {
-        option.name
-    };
-    Ok(Some(not_of(alloc, call, shown, option.kind)?))
+    Ok(Some(not_of(alloc, call, option.name, option.kind)?))
 }
 
 /// What is wrong with a word that is to be an attribute with its value.
@@ -98,7 +92,7 @@ fn wrong_attribute(
             if has_equals(value) {
                 return Ok(Some(twice_equals(alloc, call, option.name)?));
             }
-            wrong_value(alloc, call, option, word, value)
+            wrong_value(alloc, call, option, value)
         }
         None => Ok(None),
     }
@@ -386,7 +380,7 @@ fn wrong_given(
         complaints.wrong_given call.now (option_view option.now) word.now) }
 {
     match value_after(option.name, word) {
-        Some(value) => wrong_value(alloc, call, option, word, value),
+        Some(value) => wrong_value(alloc, call, option, value),
         None => Ok(None),
     }
 }

@@ -13,7 +13,7 @@ pub enum Kind {
     Text,
     /// A number from -2^31 to 2^31 - 1.
     Int,
-    /// A date, in seconds since 1970-01-01 UTC.
+    /// A date, in seconds since 1970-01-01 UTC, from 0 to 2^63 - 1.
     Seconds,
     /// Bytes, in hex digits.
     Hex,

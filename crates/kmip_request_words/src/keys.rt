@@ -32,6 +32,18 @@ const SIGN: u32 = 0x1;
 /// The use Verify.
 const VERIFY: u32 = 0x2;
 
+/// The name of a use as the table writes it: OASIS writes three of them in capitals.
+pub fn table_name(name: &str) -> &str
+    ensures { result.now ≡ keys.table_name name.now }
+{
+    match name {
+        "MACGenerate" => "MacGenerate",
+        "MACVerify" => "MacVerify",
+        "CRLSign" => "CrlSign",
+        _ => name,
+    }
+}
+
 /// The uses of these names together; `None` where one is no name of a use.
 fn uses_of(names: &[&str]) -> Option<CryptographicUsageMask>
     ensures { option_map usage_bits result ≡ keys.uses_of (map (λ name. name.now) names.now) }
@@ -39,7 +51,7 @@ fn uses_of(names: &[&str]) -> Option<CryptographicUsageMask>
     match names {
         [] => Some(CryptographicUsageMask::from_bits_retain(0)),
         [first, rest @ ..] => {
-            let one = CryptographicUsageMask::from_name(first)?;
+            let one = CryptographicUsageMask::from_name(table_name(first))?;
             let mut uses = uses_of(rest)?;
             uses.insert(one);
             Some(uses)

@@ -10,7 +10,8 @@ use crate::asked::{HASHES, PADDINGS, REASONS};
 use crate::attributes::{OBJECT_TYPES, STATES};
 use crate::coded::{ALGORITHMS, FORMATS};
 use crate::grammar::{Kind, OptionRow, attribute_rows};
-use crate::values::{bytes_of, int_of, number_of, word_text};
+use crate::keys::table_name;
+use crate::values::{bytes_of, int_of, long_of, word_text};
 use crate::words::parts_between;
 use kmip_shape::Enumeration;
 use kmip_wire::{List, OutOfMemory, Text};
@@ -153,13 +154,13 @@ fn is_among(names: &[Text], word: &str) -> bool
     }
 }
 
-/// Whether each of the words is one of these names.
+/// Whether each of the words is one of these names of uses, in the table's spelling or OASIS's.
 fn are_among(names: &[Text], words: &[&str]) -> bool
     ensures { result ≡ are_among names.now (map (λ word. word.now) words.now) }
 {
     match words {
         [] => true,
-        [first, rest @ ..] => is_among(names, first) && are_among(names, rest),
+        [first, rest @ ..] => is_among(names, table_name(first)) && are_among(names, rest),
     }
 }
 
@@ -181,7 +182,7 @@ fn are_uses(alloc: Global, word: &str) -> Result<bool, OutOfMemory>
 }
 
 /// Whether a word of a kind is one of several names.
-pub fn is_listed(kind: Kind) -> bool
+fn is_listed(kind: Kind) -> bool
     ensures { result ≡ is_listed kind }
 {
     match kind {
@@ -231,7 +232,7 @@ pub fn takes(alloc: Global, kind: Kind, word: &str) -> Result<bool, OutOfMemory>
     match kind {
         Kind::Identifier | Kind::Text => is_text(alloc, word),
         Kind::Int => Ok(int_of(word).is_some()),
-        Kind::Seconds => Ok(number_of(word).is_some()),
+        Kind::Seconds => Ok(long_of(word).is_some()),
         Kind::Hex | Kind::Request => is_hex(alloc, word),
         Kind::Flag => Ok(word.is_empty()),
         Kind::Operation | Kind::Payload | Kind::Message => Ok(true),
@@ -271,7 +272,7 @@ fn plain_wanted(kind: Kind) -> &'static str
 {
     match kind {
         Kind::Int => "is no number from -2147483648 to 2147483647 in decimal digits",
-        Kind::Seconds => "is no number from 0 to 4294967295 in decimal digits",
+        Kind::Seconds => "is no number from 0 to 9223372036854775807 in decimal digits",
         Kind::Hex | Kind::Request => "is no even number of hex digits, and not - for no bytes",
         Kind::Flag => "stands alone, with nothing after it",
         Kind::Identifier

@@ -2,6 +2,7 @@
 ghost use Rattle.std.specs.Prelude.{◌≡◌, ◌<◌, length, IfOk, IfSome, MatchOption, Some, None};
 ghost use Rattle.std.specs.Prelude.{option_map};
 ghost use Rattle.kmip_request_words.specs.Values.{int_of, number_of, bytes_of, upper_digit, escaped_byte};
+ghost use Rattle.kmip_request_words.specs.Values.{long_of, count_of};
 ghost use Rattle.kmip_request_words.specs.Values.{then_rest, unescape, word_text};
 
 use hex::FromHexError;
@@ -35,6 +36,36 @@ pub fn number_of(word: &str) -> Option<u32>
         Some(number)
     } else {
         None
+    }
+}
+
+/// The greatest Long Integer and Date-Time.
+const GREATEST: u64 = 0x7FFF_FFFF_FFFF_FFFF;
+
+/// The number from 0 to 2^63 - 1 whose decimal form is this word.
+pub fn long_of(word: &str) -> Option<u64>
+    ensures { result ≡ long_of word.now }
+{
+    let Ok(number) = word.parse::<u64>() else {
+        return None;
+    };
+    if number > GREATEST {
+        return None;
+    }
+    if Buffer::new().format(number) == word {
+        Some(number)
+    } else {
+        None
+    }
+}
+
+/// The same number as an `i64`.
+pub fn count_of(word: &str) -> Option<i64>
+    ensures { result ≡ count_of word.now }
+{
+    match long_of(word) {
+        Some(number) => Some(number.cast_signed()),
+        None => None,
     }
 }
 

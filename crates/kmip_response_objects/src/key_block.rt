@@ -36,9 +36,10 @@ type KeyValueRows = Row<One<KeyMaterial, KEY_MATERIAL>, Row<OptMany<Attribute, A
 
 impl TryClone for KeyValue {
     fn try_clone(&self, alloc: Global) -> Result<KeyValue, OutOfMemory> {
+        let attributes = clone_optional(&self.attributes, alloc)?;
         Ok(KeyValue {
             key_material: self.key_material.try_clone(alloc)?,
-            attributes: clone_optional(&self.attributes, alloc)?,
+            attributes,
         })
     }
 }

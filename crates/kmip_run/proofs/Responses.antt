@@ -16,7 +16,8 @@ use Rattle.kmip_enums.specs.declared.operation.Operation.TheVariants as operatio
 use Rattle.kmip_enums.specs.declared.result_status.ResultStatus.TheVariants as statuses
 use Rattle.kmip_enums.specs.declared.result_reason.ResultReason.TheVariants as reasons
 use Rattle.kmip_words.specs.Exchange.{or_empty}
-use Rattle.kmip_run.specs.Making.{version_tree, head_tree, response_tree, operation_tree, done_trees, gone_trees, enumeration_bytes, front, success_front, queried_made, destroyed_made}
+use Rattle.kmip_run.specs.Making.{version_tree, head_tree, response_tree, operation_tree, done_trees, gone_trees, queried_made, destroyed_made}
+use Rattle.kmip_run.specs.Written.{enumeration_bytes, front, success_front}
 
 -- a structure has a head, and the bytes of its items
 framed : (tag : ℕ) (items : List Tree) (v : List ℕ) (n : ℕ) → all_bytes (trees_of items) ≡ Some v

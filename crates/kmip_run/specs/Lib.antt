@@ -2,6 +2,7 @@ pub mod Script
 pub mod Commands
 pub mod Setup
 pub mod Making
+pub mod Written
 pub mod Auditing
 pub mod Transcript
 pub mod Program

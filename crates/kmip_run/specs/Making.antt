@@ -4,7 +4,6 @@ use Rattle.kmip_tags.specs.Tags.{BATCH_COUNT, BATCH_ITEM, DATA, OPERATION, PROTO
 use Rattle.std.specs.Fmt.{decimal}
 use Rattle.kmip_wire.specs.Tree.{Tree, scalar, structure, trees_of, integer, enumeration, text_string, byte_string, date_time}
 use Rattle.kmip_wire.specs.Bytes.{bytes}
-use Rattle.kmip_shape.specs.Writes.{structure_head}
 use Rattle.kmip_enums.specs.Operations.{operation_line}
 use Rattle.kmip_enums.specs.ResultStatuses.{result_status_line}
 use Rattle.kmip_enums.specs.ResultReasons.{result_reason_line}
@@ -63,25 +62,6 @@ gone_trees =
     ∷ scalar RESULT_REASON (enumeration (result_reason_line reasons.ItemNotFound).number)
     ∷ scalar RESULT_MESSAGE (text_string (codes "gone"))
     ∷ []
-
--- the bytes of the item of an Enumeration (KMIP 1.0, 9.1.1.4)
-abbrev pub enumeration_bytes : ℕ → ℕ → List ℕ
-enumeration_bytes tag number = or_empty (bytes (scalar tag (enumeration number)))
-
--- what a response has up to its operation, where this many bytes of the batch item follow
-abbrev pub front : ℤ → Operation → ℕ → List ℕ
-front minor operation len =
-    structure_head RESPONSE_MESSAGE (104 + len)
-    ++ (or_empty (bytes (head_tree minor))
-    ++ (structure_head BATCH_ITEM (16 + len)
-    ++ enumeration_bytes OPERATION (operation_line operation).number))
-
--- what a response of success has up to the items of its payload, which have this many bytes
-abbrev pub success_front : ℤ → Operation → ℕ → List ℕ
-success_front minor operation len =
-    front minor operation (24 + len)
-    ++ (enumeration_bytes RESULT_STATUS (result_status_line statuses.Success).number
-    ++ structure_head RESPONSE_PAYLOAD len)
 
 -- a response to a request, of its version and its operation, with the fields that follow the
 -- operation

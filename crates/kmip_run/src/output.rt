@@ -32,9 +32,11 @@ impl From<OutOfMemory> for Cut {
 }
 
 /// Writes the text and empties it, where it has at least 65,536 bytes: so a long text takes the
-/// memory of a piece of it, and fewer bytes than that are kept.
+/// memory of a piece of it, and fewer bytes than that are kept. A shorter text stays, and nothing
+/// is written.
 pub fn write_if_long<K: Sink>(sink: &mut K, text: &mut Text) -> Result<(), Cut>
     ensures keeps { SinkKeeps (K.state sink.old) (K.state sink.new) }
+    ensures waits { length text.old < 65536 → (sink.new ≡ sink.old) × (text.new ≡ text.old) }
     ensures moved { OnOk result (Moves (K.state sink.old) (K.state sink.new) text.old text.new) }
     ensures short { OnOk result (length text.new < 65536) }
     ensures part { OnErr result (IsTrue (K.state sink.old).tells →

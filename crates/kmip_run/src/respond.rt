@@ -4,9 +4,9 @@ ghost use Rattle.kmip_wire.specs.Head.{pads};
 ghost use Rattle.kmip_wire.specs.Bytes.{bytes};
 ghost use Rattle.kmip_wire.specs.Room.{Appends};
 ghost use Rattle.kmip_words.specs.Exchange.{or_empty};
-ghost use Rattle.kmip_run.specs.Making.{head_tree, enumeration_bytes, front, success_front};
+ghost use Rattle.kmip_run.specs.Making.{head_tree, made_of};
 ghost use Rattle.kmip_run.specs.Making.{random_made, activated_made, queried_made, destroyed_made};
-ghost use Rattle.kmip_run.specs.Making.{made_of};
+ghost use Rattle.kmip_run.specs.Written.{enumeration_bytes, front, success_front};
 
 use itoa::Buffer as Decimal;
 use kmip_enums::{Operation, ResultReason, ResultStatus};

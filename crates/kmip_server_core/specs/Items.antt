@@ -130,7 +130,7 @@ item_for call answer = done_item (call_operation call) (payload_for call answer)
 abbrev pub pair_item : Answer → BatchItem
 pair_item answer = item_for (CreateRsaKeyPair (pos 0) [] []) answer
 
--- the item that refuses bytes that are no request of a client
+-- the item that refuses bytes that no matched request has
 abbrev pub invalid_item : BatchItem
 invalid_item = failed_item None reasons.InvalidMessage (codes "invalid message")
 

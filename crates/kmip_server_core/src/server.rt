@@ -71,7 +71,7 @@ impl<M: Maker> Server<M> {
     ///
     /// The response reports the first of these that fits (KMIP 1.0, 6.9 to 6.11):
     ///
-    /// - `InvalidMessage`: the bytes are no request that a client writes;
+    /// - `InvalidMessage`: no matched request has these bytes, with any credential;
     /// - `OperationNotSupported`: no helper has the operation;
     /// - `InvalidField`: no helper makes this request;
     /// - `ItemNotFound`: no object has the identifier;

@@ -7,8 +7,8 @@ ghost use Rattle.kmip_wire.specs.Parses.{Parses};
 ghost use Rattle.kmip_encodings.specs.Encoding.{json_text};
 ghost use Rattle.kmip_ttlv.specs.Program.{bytes_in, Decodes, Encodes};
 
-/// `encode` undoes `decode`: of what `decode` wrote it writes the canonical bytes of the item in
-/// hex, which are the bytes that `decode` was given, where the pads in these are zeros.
+/// `encode` undoes `decode`: what it writes of the JSON that `decode` wrote is the canonical bytes of
+/// the item in hex.
 pub fn encoded_back()
     ensures { (t : Tree) (b input between output : List ℕ) → AreBytes (bytes_in input) →
         Parses t 1 (bytes_in input) → bytes t ≡ Some b → Decodes json_text input between →

@@ -74,17 +74,17 @@ const FAILURES: &[(Command, &[u8], &str)] = &[
     (
         Command::Encode,
         b"{\"tag\":x}",
-        "kmip_ttlv: line 1, column 8: expected JSON, found a x\n",
+        "kmip_ttlv: line 1, column 8: expected JSON, found something else\n",
     ),
     (
         Command::Encode,
         b"{\"tag\":\"Attribute\",\"value\":[{\"tag\":\"Attribute\",\"value\":[]},{\"tag\":\"Attribute\",\"value\":[{\"tag\":\"State\",\"type\":\"Enumeration\",\"value\":\"Actif\"}]}]}",
-        "kmip_ttlv: line 1, column 132, value[1].value[0].value: expected PreActive, Active, Deactivated, Compromised, Destroyed, DestroyedCompromised, or 0x and eight hex digits, found \"Actif\"\n",
+        "kmip_ttlv: line 1, column 132, value[1].value[0].value: expected PreActive, Active, Deactivated, Compromised, Destroyed, DestroyedCompromised, or 0x and eight hex digits, found another string\n",
     ),
     (
         Command::Encode,
         b"<BatchCount type=\"Integer\" value=\"x\"/>",
-        "kmip_ttlv: line 1, column 2, BatchCount.value: expected a whole number from -2147483648 to 2147483647, or 0x and eight hex digits, found \"x\"\n",
+        "kmip_ttlv: line 1, column 2, BatchCount.value: expected a whole number from -2147483648 to 2147483647, or 0x and eight hex digits, found another value\n",
     ),
     (
         Command::Encode,

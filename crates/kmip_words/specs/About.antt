@@ -110,20 +110,48 @@ is_wrapped payload = false
 abbrev pub one_key_text : List ℕ
 one_key_text = codes "answer with one identifier for two keys"
 
+-- why an answer without a new object's identifier is none
+abbrev pub no_identifier_text : List ℕ
+no_identifier_text = codes "answer without an identifier"
+
+-- what an answer that names a new object lacks (KMIP 1.0, 4.1 and 4.3)
+abbrev pub identifier_lack : Val → Option (List ℕ)
+identifier_lack payload =
+    if length (identifier_in payload) == 0 then Some no_identifier_text else None
+
+-- what an answer that names the two keys of a pair lacks
+abbrev pub pair_lack : Val → Option (List ℕ)
+pair_lack payload =
+    if is_one_key payload then Some one_key_text
+    else if length (identifier_in payload) == 0 then Some no_identifier_text
+    else if length (second_identifier_in payload) == 0 then Some no_identifier_text
+    else None
+
+-- the signature in an answer to Sign, its second field (KMIP 1.2, 4.31)
+abbrev pub signature_in : Val → List ℕ
+signature_in (Case n payload) = bytes_or_none (one_of (field_at 1 payload))
+signature_in payload = []
+
+abbrev pub signature_lack : Val → Option (List ℕ)
+signature_lack payload =
+    if length (signature_in payload) == 0 then Some (codes "answer without a signature") else None
+
 -- what an answer to a request lacks
 abbrev pub request_lack : RequestPayload → Val → Option (List ℕ)
 request_lack (RequestPayload.Get id format compression (Some wrapping)) payload =
     if is_wrapped payload then None else Some (codes "answer with an object that is not wrapped")
-request_lack (RequestPayload.CreateKeyPair common private public) payload =
-    if is_one_key payload then Some one_key_text else None
+request_lack (RequestPayload.Create type template) payload = identifier_lack payload
+request_lack (RequestPayload.CreateKeyPair common private public) payload = pair_lack payload
+request_lack (RequestPayload.Register type template object) payload = identifier_lack payload
+request_lack (RequestPayload.Sign id parameters bytes) payload = signature_lack payload
 request_lack request payload = None
 
 -- what an answer to a call lacks, where it lacks something
 abbrev pub call_lack : Call → Val → Option (List ℕ)
 call_lack (Rng num_bytes) payload =
     if lacks_bytes num_bytes payload then Some (codes "answer without random bytes") else None
-call_lack (CreateRsa key_length private_key_name public_key_name) payload =
-    if is_one_key payload then Some one_key_text else None
+call_lack (CreateRsa key_length private_key_name public_key_name) payload = pair_lack payload
+call_lack (Sign id bytes) payload = signature_lack payload
 call_lack (Request request) payload = request_lack request payload
 call_lack call payload = None
 

@@ -1,6 +1,6 @@
 //! Whether an answer is one to its call: about the object that was asked about, and with what was
 //! asked for.
-ghost use Rattle.std.specs.Prelude.{◌≡◌, option_map};
+ghost use Rattle.std.specs.Prelude.{◌≡◌, ◌==◌, length, option_map};
 ghost use Rattle.kmip_enums.specs.declared.operation.Operation.{Operation as TheOperation};
 ghost use Rattle.kmip_request.specs.Message.{operation_of};
 ghost use Rattle.kmip_response.specs.Values.{response_payload_val};
@@ -8,6 +8,8 @@ ghost use Rattle.kmip_client.specs.Client.{IsOfOperation};
 ghost use Rattle.kmip_words.specs.Exchange.{operation_asked};
 ghost use Rattle.kmip_words.specs.About.{identifier_or_none, named_in, asked_about};
 ghost use Rattle.kmip_words.specs.About.{identifier_in, is_about_another, lacks_bytes, is_one_key};
+ghost use Rattle.kmip_words.specs.About.{second_identifier_in, signature_in, identifier_lack};
+ghost use Rattle.kmip_words.specs.About.{pair_lack, signature_lack};
 ghost use Rattle.kmip_words.specs.About.{is_wrapped, request_lack, call_lack};
 ghost use Rattle.kmip_words.specs.About.{objection};
 
@@ -123,6 +125,9 @@ fn lacks_bytes(num_bytes: i32, payload: &ResponsePayload) -> bool
     }
 }
 
+/// Why a pair that is one key is refused.
+const ONE_KEY: &str = "answer with one identifier for two keys";
+
 /// Whether the two keys of a pair have one identifier.
 fn is_one_key(payload: &ResponsePayload) -> bool
     requires { IsOfOperation TheOperation.CreateKeyPair (response_payload_val payload.now) }
@@ -134,6 +139,75 @@ fn is_one_key(payload: &ResponsePayload) -> bool
                 == text_of(&payload.public_key_unique_identifier)
         }
         _ => unreachable!(),
+    }
+}
+
+/// The identifier that stands second in the answer with a pair of keys.
+fn second_identifier_in(payload: &ResponsePayload) -> &str
+    requires { IsOfOperation TheOperation.CreateKeyPair (response_payload_val payload.now) }
+    ensures { result.now ≡ second_identifier_in (response_payload_val payload.now) }
+{
+    match payload {
+        ResponsePayload::CreateKeyPair(payload) => {
+            text_of(&payload.public_key_unique_identifier)
+        }
+        _ => unreachable!(),
+    }
+}
+
+/// Why an answer without a new object's identifier is refused.
+const NO_IDENTIFIER: &str = "answer without an identifier";
+
+/// What an answer that names a new object lacks.
+fn identifier_lack(payload: &ResponsePayload) -> Option<&'static str>
+    ensures { option_map (λ text. text.now) result ≡
+        identifier_lack (response_payload_val payload.now) }
+{
+    if identifier_in(payload).is_empty() {
+        Some(NO_IDENTIFIER)
+    } else {
+        None
+    }
+}
+
+/// What an answer that names the two keys of a pair lacks.
+fn pair_lack(payload: &ResponsePayload) -> Option<&'static str>
+    requires { IsOfOperation TheOperation.CreateKeyPair (response_payload_val payload.now) }
+    ensures { option_map (λ text. text.now) result ≡
+        pair_lack (response_payload_val payload.now) }
+{
+    if is_one_key(payload) {
+        Some(ONE_KEY)
+    } else if identifier_in(payload).is_empty() {
+        Some(NO_IDENTIFIER)
+    } else if second_identifier_in(payload).is_empty() {
+        Some(NO_IDENTIFIER)
+    } else {
+        None
+    }
+}
+
+/// Whether an answer to Sign has no bytes of a signature.
+fn lacks_signature(payload: &ResponsePayload) -> bool
+    requires { IsOfOperation TheOperation.Sign (response_payload_val payload.now) }
+    ensures { result ≡ (length (signature_in (response_payload_val payload.now)) == 0) }
+{
+    match payload {
+        ResponsePayload::Sign(payload) => payload.signature_data.as_slice().is_empty(),
+        _ => unreachable!(),
+    }
+}
+
+/// What an answer to Sign lacks.
+fn signature_lack(payload: &ResponsePayload) -> Option<&'static str>
+    requires { IsOfOperation TheOperation.Sign (response_payload_val payload.now) }
+    ensures { option_map (λ text. text.now) result ≡
+        signature_lack (response_payload_val payload.now) }
+{
+    if lacks_signature(payload) {
+        Some("answer without a signature")
+    } else {
+        None
     }
 }
 
@@ -157,9 +231,6 @@ fn is_wrapped(payload: &ResponsePayload) -> bool
     }
 }
 
-/// Why a pair that is one key is refused.
-const ONE_KEY: &str = "answer with one identifier for two keys";
-
 /// What an answer to a request lacks.
 fn request_lack(request: &RequestPayload, payload: &ResponsePayload) -> Option<&'static str>
     requires { IsOfOperation (operation_of request.now) (response_payload_val payload.now) }
@@ -174,16 +245,10 @@ fn request_lack(request: &RequestPayload, payload: &ResponsePayload) -> Option<&
                 Some("answer with an object that is not wrapped")
             }
         }
-        RequestPayload::CreateKeyPair(..) => {
-            if is_one_key(payload) {
-                Some(ONE_KEY)
-            } else {
-                None
-            }
-        }
+        RequestPayload::CreateKeyPair(..) => pair_lack(payload),
+        RequestPayload::Create(..) | RequestPayload::Register(..) => identifier_lack(payload),
+        RequestPayload::Sign(..) => signature_lack(payload),
         RequestPayload::Get(_, _, _, None)
-        | RequestPayload::Create(..)
-        | RequestPayload::Register(..)
         | RequestPayload::Locate(_)
         | RequestPayload::GetAttributes(..)
         | RequestPayload::GetAttributeList(_)
@@ -195,7 +260,6 @@ fn request_lack(request: &RequestPayload, payload: &ResponsePayload) -> Option<&
         | RequestPayload::Destroy(_)
         | RequestPayload::Query(_)
         | RequestPayload::DiscoverVersions(_)
-        | RequestPayload::Sign(..)
         | RequestPayload::RNGRetrieve(_) => None,
     }
 }
@@ -214,16 +278,10 @@ fn call_lack(call: &Call, payload: &ResponsePayload) -> Option<&'static str>
                 None
             }
         }
-        Call::CreateRsa { .. } => {
-            if is_one_key(payload) {
-                Some(ONE_KEY)
-            } else {
-                None
-            }
-        }
+        Call::CreateRsa { .. } => pair_lack(payload),
+        Call::Sign { .. } => signature_lack(payload),
         Call::Request { payload: request } => request_lack(request.get(), payload),
         Call::Query
-        | Call::Sign { .. }
         | Call::Activate { .. }
         | Call::Revoke { .. }
         | Call::Destroy { .. }

@@ -189,7 +189,7 @@ const SAID: &[(&str, &str)] = &[
     ),
     (
         "sign k1 00 hash=sha384",
-        "sign: hash=sha384 is none of MD2, MD4, MD5, SHA1, SHA224, SHA256, SHA384, SHA512, RIPEMD160, Tiger, Whirlpool",
+        "sign: hash= is none of MD2, MD4, MD5, SHA1, SHA224, SHA256, SHA384, SHA512, RIPEMD160, Tiger, Whirlpool",
     ),
     (
         "sign k1 0",
@@ -202,7 +202,7 @@ const SAID: &[(&str, &str)] = &[
     ),
     (
         "revoke k1 since=soon",
-        "revoke: since= is no number from 0 to 4294967295 in decimal digits",
+        "revoke: since= is no number from 0 to 9223372036854775807 in decimal digits",
     ),
     (
         "revoke k1 message=%F",
@@ -222,7 +222,7 @@ const SAID: &[(&str, &str)] = &[
     ),
     (
         "locate where state=x",
-        "locate: state=x is none of PreActive, Active, Deactivated, Compromised, Destroyed, DestroyedCompromised",
+        "locate: state= is none of PreActive, Active, Deactivated, Compromised, Destroyed, DestroyedCompromised",
     ),
     (
         "locate where name=a=b",

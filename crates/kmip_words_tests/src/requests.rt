@@ -94,6 +94,22 @@ const ASKED: &[Asked] = &[
         request: r#"REQ0(1, 57 e2,91{08{0A "Name",0B{55 "k1",54 e1}},08{0A "Cryptographic Usage Mask",0B i12},08{0A "Cryptographic Algorithm",0B e3},08{0A "Cryptographic Length",0B i256}})"#,
     },
     Asked {
+        call: "create AES 128 k1 usage=MACGenerate,MACVerify,CRLSign,MacGenerate",
+        request: r#"REQ0(1, 57 e2,91{08{0A "Name",0B{55 "k1",54 e1}},08{0A "Cryptographic Usage Mask",0B i8576},08{0A "Cryptographic Algorithm",0B e3},08{0A "Cryptographic Length",0B i128}})"#,
+    },
+    Asked {
+        call: "register private CC format=PKCS1 algorithm=RSA length=2048 usage=CRLSign",
+        request: r#"REQ0(3, 57 e4,91{08{0A "Cryptographic Usage Mask",0B i8192}},64{40{42 e3,45{43 xCC},28 e4,2A i2048}})"#,
+    },
+    Asked {
+        call: "attribute-add k1 activation=9223372036854775807",
+        request: r#"REQ0(D, 94 "k1",08{0A "Activation Date",0B d9223372036854775807})"#,
+    },
+    Asked {
+        call: "locate where activation=4294967296",
+        request: r#"REQ0(8, 08{0A "Activation Date",0B d4294967296})"#,
+    },
+    Asked {
         call: "create TRIPLE_DES 168 k1 usage=WrapKey,UnwrapKey",
         request: r#"REQ0(1, 57 e2,91{08{0A "Name",0B{55 "k1",54 e1}},08{0A "Cryptographic Usage Mask",0B i48},08{0A "Cryptographic Algorithm",0B e2},08{0A "Cryptographic Length",0B i168}})"#,
     },
@@ -147,6 +163,8 @@ const NO_CALLS: &[&str] = &[
     "revoke k1 KeyCompromise",
     "revoke k1 reason=1",
     "revoke k1 since=-1",
+    "revoke k1 since=9223372036854775808",
+    "locate where activation=99999999999999999999",
     "revoke k1 since=2023-11-14",
     "revoke k1 message=%F",
     "get k1 format=PKCS_8",

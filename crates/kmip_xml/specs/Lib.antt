@@ -5,3 +5,4 @@ pub mod Markup
 pub mod Scalars
 pub mod Reading
 pub mod Texts
+pub mod Refusals

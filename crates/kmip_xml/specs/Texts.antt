@@ -4,7 +4,10 @@ use Rattle.kmip_wire.specs.Tree.{Tree}
 use Rattle.kmip_encodings.specs.Reading.{ReadsText}
 use Rattle.kmip_xml.specs.declared.text.TextError.{TextError}
 use Rattle.kmip_xml.specs.declared.text.TextError.TheVariants.{Xml, Json}
+use Rattle.kmip_encodings.specs.Refusals as json
+use Rattle.kmip_encodings.specs.declared.refusal.Refusal.{Refusal}
 use Rattle.kmip_xml.specs.Given.{Fails}
+use Rattle.kmip_xml.specs.Refusals as xml
 use Rattle.kmip_xml.specs.Scan.{trimmed, after}
 use Rattle.kmip_xml.specs.Reading.{tree_of}
 
@@ -22,3 +25,8 @@ Means text t = MeansBy (looks_like_xml text) text t
 abbrev pub Unread : List ℕ → TextError → Type 0
 Unread text (Xml error) = (looks_like_xml text ≡ true) × Fails error (tree_of text)
 Unread text (Json error) = (looks_like_xml text ≡ false) × ReadsText (Err error) text
+
+-- what a refusal says of an error
+abbrev pub Tells : List ℕ → TextError → Refusal → Type 0
+Tells text (Xml error) r = xml.Tells text error r
+Tells text (Json error) r = json.Tells text error r

@@ -195,9 +195,8 @@ fn foreign_at(text: &str) -> Option<usize>
 }
 
 /// The tree of a text of XML: one element, which is an item, with an element for each item in it,
-/// maybe behind a declaration; comments and white space may stand round elements. What `to_xml` of
-/// kmip_encodings writes of a tree of at most 64 levels, whose texts are of characters that XML has,
-/// is read as that tree.
+/// maybe behind a declaration; comments and white space may stand round elements. Tests, and no
+/// clause, say that what `to_xml` of kmip_encodings writes is read as the tree it was written of.
 ///
 /// An element has the name of its tag, or it is `TTLV` with the attribute `tag`, which is `0x` and six
 /// digits; it has the attributes `type`, Structure where it is left out, and `value`, which a structure

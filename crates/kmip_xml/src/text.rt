@@ -1,6 +1,6 @@
 //! A text of XML or of JSON, read as a tree.
-ghost use Rattle.std.specs.Prelude.{◌≡◌, ◌<◌, IfOk, MatchResult};
-ghost use Rattle.kmip_xml.specs.Texts.{looks_like_xml, Means, Unread};
+ghost use Rattle.std.specs.Prelude.{◌≡◌, IfOk, MatchResult};
+ghost use Rattle.kmip_xml.specs.Texts.{looks_like_xml, Means, Unread, Tells};
 
 use crate::error::XmlError;
 use crate::read::from_xml;
@@ -47,8 +47,7 @@ pub fn from_text(alloc: Global, text: &str) -> Result<Tree, TextError>
 /// Why this text is not read: the error is that of `from_text` for the same text. It fails only
 /// where memory runs out.
 pub fn text_refusal_of(alloc: Global, text: &str, error: &TextError) -> Result<Refusal, OutOfMemory>
-    ensures line { IfOk result (λ refusal. 0 < refusal.line) }
-    ensures column { IfOk result (λ refusal. 0 < refusal.column) }
+    ensures { IfOk result (λ refusal. Tells text.now error.now refusal) }
 {
     match error {
         TextError::Xml(error) => refusal_of(alloc, text, error),

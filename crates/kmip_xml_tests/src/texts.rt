@@ -20,10 +20,13 @@ const REFUSED: &[(&str, &str)] = &[
         " <BatchItem>",
         "line 1, column 13: expected an element, a comment, or the end of the element around, found the end of the text",
     ),
-    ("{\"tag\":x}", "line 1, column 8: expected JSON, found a x"),
+    (
+        "{\"tag\":x}",
+        "line 1, column 8: expected JSON, found something else",
+    ),
     (
         "x<BatchItem/>",
-        "line 1, column 1: expected JSON, found a x",
+        "line 1, column 1: expected JSON, found something else",
     ),
 ];
 

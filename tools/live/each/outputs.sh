@@ -13,10 +13,12 @@ client_run call query 2>"$said" >/dev/full
 written 'an answer, and a disk that is full' 4
 if [[ $client != shell ]]; then says 'the reason is said' 'No space left on device'; fi
 # (Rust puts /dev/null in the place of an output that is closed.)
-closed=4
-if [[ $client == rust ]]; then closed=0; fi
+closed=4 of_call=4
+if [[ $client == rust ]]; then closed=0 of_call=0; fi
+# (the command looks at its streams before it sends anything)
+if [[ $client == command ]]; then of_call=2; fi
 client_run call query 2>"$said" >&-
-written 'an answer, and an output that is closed' "$closed"
+written 'an answer, and an output that is closed' "$of_call"
 client_run rotate old name 2>"$said" >"$work/new"
 written 'a rotation' 0
 [[ -s $work/new ]]

@@ -26,8 +26,8 @@ checks_fail 'a case that breaks off' clients/tests/live/versions.sh '/^has_versi
 says 'it is said' 'versions.sh broke off'
 checks_fail 'a file that is not there' clients/tests/live/versions.sh 's/clients.c.Makefile/clients\/c\/none/'
 says 'it has no version' '^FAILED  shell: clients/c/none has the version'
-checks_fail 'a case that is lost' clients/tests/live/versions.sh '/^has_version clients/d' --least shell=4
-says 'it is said how many have passed' '^FAILED  shell: 3 checks have passed, and at least 4 should$'
+checks_fail 'a case that is lost' clients/tests/live/versions.sh '/^has_version clients/d' --least shell=5
+says 'it is said how many have passed' '^FAILED  shell: 4 checks have passed, and at least 5 should$'
 rm -rf copy/clients copy/tools && cp -r whole/* copy
 copy/tools/check_clients.sh --built "$built" --client shell --topic versions --seconds 0 --least shell=4 >"$said" 2>&1
 verdict 'what is skipped for want of time fails nothing'

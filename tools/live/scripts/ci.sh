@@ -2,6 +2,7 @@
 # .ci/run: the proofs, a long run, and then the clients' checks; what fails first ends it, with its status.
 mkdir -p "a clone/.ci" "a clone/tools" "a clone/tables" "a clone/bench" bin
 cp "$top/.ci/run" "a clone/.ci"
+cp "$top/tools/refusals.py" "a clone/tools"
 printf '#!/bin/bash\necho "$* in $PWD"; exit "$PROOFS"\n' >bin/rt
 printf '#!/bin/bash\necho "the clients $*"; exit "$CLIENTS"\n' >'a clone/tools/check_clients.sh'
 printf '#!/bin/bash\necho the counts; exit "$COUNTS"\n' >'a clone/bench/make_counts.sh'

@@ -51,14 +51,18 @@ else
     echo "skipped $client: no release is made without dpkg-deb, readelf and libssl-dev"
 fi
 
-# The blocks of README with commands, one after the other.
+# The blocks of README and of docs/PROGRAM.md with commands, one after the other.
 mapfile -d '' -t blocks < <(awk '/^    \$ / { within = 1 } within && !/^    / { within = 0; printf "%c", 0 }
-    within { sub(/^    /, ""); print }' "$top/README.md")
-((${#blocks[@]} == 2))
-verdict 'README has two blocks of commands'
+    within { sub(/^    /, ""); print }' "$top/README.md" "$top/docs/PROGRAM.md")
+((${#blocks[@]} == 3))
+verdict 'README has two blocks of commands, and docs/PROGRAM.md one'
 for block in "${blocks[@]}"; do
     if [[ $block == *'rt try'* ]] && ! type -P rt >/dev/null; then
         echo "skipped $client: there is no toolchain (rt)"
+        continue
+    fi
+    if [[ $block == *kmip_ttlv* && ! -x $built/kmip_ttlv ]]; then
+        echo "skipped $client: there is no $built/kmip_ttlv"
         continue
     fi
     if [[ $block == *test_server.sh* ]]; then

@@ -1,7 +1,7 @@
 # shellcheck shell=bash
 # tools/wrong_bodies.sh: which refusals it counts, and its status, by an rt that says one line of each wrong body.
 mkdir -p 'a clone/tools' 'a clone/crates/one/src' 'a clone/wrong_bodies/one' bin
-cp "$top/tools/wrong_bodies.sh" 'a clone/tools'
+cp "$top/tools/wrong_bodies.sh" "$top/tools/refusals.py" 'a clone/tools'
 printf 'one: # a crate\n' >'a clone/crates.txt'
 printf 'Handles allowed: none.\n' >'a clone/HANDLES'
 touch 'a clone/wrong_bodies/one/first.edit' 'a clone/wrong_bodies/one/second.edit'
@@ -10,7 +10,7 @@ printf '#!/bin/bash\nls crates/one/must-fail\nprintf "must-fail one/%%s\\n" "fir
 chmod +x bin/rt
 count_is() { # WHAT COUNT STATUS RT'S-STATUS SECOND-LINE
     PATH="$work/bin:$PATH" STATUS=$4 SECOND=$5 'a clone/tools/wrong_bodies.sh' >"$said" 2>&1
-    (($? == $3)) && [[ $(tail -1 "$said") == "$2 of 2 wrong bodies refused by their contracts" ]]
+    (($? == $3)) && [[ $(tail -1 "$said") == "refusals.py: $2 of 2 must-fail edits are refused by the contracts" ]]
     verdict "wrong_bodies.sh: $1"
 }
 refused='second.edit: refused, as it must be'

@@ -2,7 +2,7 @@
 # needs: server
 # The tasks of clients/c/README.md, as they stand there.
 tasks_in_c >tasks.c
-gcc -std=c11 -Wall -Wextra -Werror "${sanitized[@]}" -I"$top/clients/c" -o tasks tasks.c "$top"/clients/c/metsuwan_{tls,batch,wire,words,register,errors,records}.c \
+gcc -std=c11 -Wall -Wextra -Werror "${sanitized[@]}" -I"$top/clients/c" -o tasks tasks.c "$top"/clients/c/metsuwan_[!mv]*.c \
     "$built/libmetsuwan.a" -lssl -lcrypto -pthread >"$said" 2>&1
 verdict 'the tasks are built'
 cp "$authority" ca.pem

@@ -5,7 +5,7 @@
 make_key 'of the rate' || give_up 'no key'
 configure
 gcc -std=c11 -O2 -Wall -Wextra -Werror -I"$top/clients/c" -o "$work/rate" "$top/clients/openssl/tests/rate.c" \
-    "$top"/clients/c/metsuwan_{tls,wire,words,register,errors,records}.c "$built/libmetsuwan.a" -lssl -lcrypto -pthread >"$said" 2>&1
+    "$top"/clients/c/metsuwan_[!mv]*.c "$built/libmetsuwan.a" -lssl -lcrypto -pthread >"$said" 2>&1
 verdict 'the program is built'
 timeout $((60 * slack)) "$work/rate" "$host" "$port" "$certificate" "$key" "$authority" "$private" \
     "kmip:id=$private;public-id=$public" "$((${measure:-0} > 0 ? measure : 5))" >"$said" 2>&1

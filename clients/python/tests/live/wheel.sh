@@ -66,7 +66,7 @@ with metsuwan.Client(host, port, cert=cert, key=key, ca=ca) as kmip:
     "$host" "$port" "$certificate" "$key" "$authority" >"$said" 2>&1
 says 'it makes a call with its own library' "^signature by k $work/env/"
 [[ $("$own" -I -c 'import importlib.metadata as it, metsuwan
-print(metsuwan.__version__ == it.version("metsuwan").partition("+")[0])') == True ]]
+print(metsuwan.__version__ == it.version("metsuwan"))') == True ]]
 verdict 'metsuwan.__version__ is its version'
 [[ -e $("$own" -I -c 'import metsuwan; print(metsuwan.__path__[0])')/py.typed ]]
 verdict 'it is typed'

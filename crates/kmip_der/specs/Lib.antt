@@ -1,0 +1,5 @@
+pub mod Der
+pub mod Curve
+pub mod CurveTable
+pub mod Keys
+pub mod Write
