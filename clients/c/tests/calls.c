@@ -327,11 +327,10 @@ static void empty_identifier(kmip_client *client) {
         check(kmip_operation(client, "Get", "1.2", payloads[i]) == KMIP_CALL_GRAMMAR &&
                   !kmip_was_sent(client),
               "a payload with an empty identifier is not sent");
-        check_text(
-            kmip_line(client),
-            "{\"error\":\"GrammarError\",\"text\":\"the payload: an identifier or an "
-            "AsynchronousCorrelationValue in it is empty\"}",
-            "and why");
+        check_text(kmip_line(client),
+                   "{\"error\":\"GrammarError\",\"text\":\"the payload: an identifier or an "
+                   "AsynchronousCorrelationValue in it is empty\"}",
+                   "and why");
     }
 }
 
