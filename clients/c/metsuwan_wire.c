@@ -278,7 +278,7 @@ static bool insist(SSL *tls) {
 
 /* Whether the server is known; else nothing is sent. */
 static bool is_known(kmip_wire *wire, const char *host) {
-    kmip_reason why;
+    kmip_reason why = {""};
     return kmip_is_known(wire->tls, wire->library, host, &why) || fails(wire, "%s", why.text);
 }
 
