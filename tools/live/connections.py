@@ -2,6 +2,7 @@
 import contextlib
 import socket
 import ssl
+import sys
 import tempfile
 import threading
 import time
@@ -124,7 +125,14 @@ def serve_each(listener, serve):
         threading.Thread(target=quietly, args=(wire,), daemon=True).start()
 
 
+# The names of the servers that listen.
+LISTENING = set()
+
+
 def listen(name, serve, host='127.0.0.1'):
+    if name in LISTENING:
+        sys.exit('two fake servers are called ' + name)
+    LISTENING.add(name)
     family = socket.AF_INET6 if ':' in host else socket.AF_INET
     listener = socket.create_server((host, 0), backlog=100, family=family)
     print(name, listener.getsockname()[1], flush=True)

@@ -645,13 +645,8 @@ def early(wire, request):
 
 
 @fake
-def refuses(wire, request):
+def refuses_and_resets(wire, request):
     """refuses the client's certificate by TLS 1.3, where that is after the client's handshake, and resets the connection"""
-
-
-@fake
-def refuses_by_1_2(wire, request):
-    """refuses the client's certificate by TLS 1.2, within the handshake"""
 
 
 @fake
@@ -700,10 +695,9 @@ def main():
             # In TLS 1.2 the last bytes of the handshake are the server's.
             context.maximum_version = ssl.TLSVersion.TLSv1_2
             serve, words = by_steps, (name, context, GOOD_QUERY)
-        elif name.startswith('refuses'):
+        elif name == 'refuses_and_resets':
             context = context_of(certs, certificate, 'other/ca')
-            context.minimum_version = context.maximum_version = (
-                ssl.TLSVersion.TLSv1_2 if name.endswith('1_2') else ssl.TLSVersion.TLSv1_3)
+            context.minimum_version = ssl.TLSVersion.TLSv1_3
             context.verify_mode = ssl.CERT_REQUIRED
             words = name, context
         elif name == 'end_after':
