@@ -74,7 +74,7 @@ impl Failure {
         let hint = match &error {
             E::ConnectError(_) => hint(&text).to_string(),
             // By TLS 1.3 the server looks at the client's certificate after the handshake.
-            _ if error.is_lost() && text.contains(ALERT) => hint(ALERT).to_string(),
+            _ if error.is_lost() && text.contains(REFUSED) => hint(REFUSED).to_string(),
             _ if is_unread => {
                 let text = "`kmip query` lists those that it has";
                 format!("the server may not have {operation}: {text}")
@@ -99,9 +99,10 @@ fn with_hint(line: &str, hint: &str) -> String {
     }
 }
 
-const ALERT: &str = "alert";
+/// How the client tells that the server takes no certificate of ours.
+const REFUSED: &str = "the server refused the certificate";
 /// What mends an error of connecting. The client tells these errors by their text alone.
-const HINTS: [(&str, &str); 14] = [
+const HINTS: [(&str, &str); 15] = [
     ("Connection refused", "nothing listens on this port: look at `server`"),
     ("failed to lookup", "look at the host's name in `server`"),
     (
@@ -127,7 +128,8 @@ const HINTS: [(&str, &str); 14] = [
     ),
     ("this is not its passphrase", "look at `passphrase` or `passphrase_file`"),
     ("no passphrase is given", "set `passphrase_file`, or call from a terminal, which is asked"),
-    (ALERT, "the server refuses the client's certificate: look at `certificate`"),
+    (REFUSED, "the server refuses the client's certificate: look at `certificate`"),
+    ("alert", "the server refuses the handshake: look at `certificate`"),
     ("wrong version number", "what listens there speaks no TLS: look at the port in `server`"),
     ("end of input", "the server ended the connection: it may refuse `certificate`"),
     ("no answer within", "a firewall may lie between, or `server` has another port"),

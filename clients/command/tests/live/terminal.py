@@ -11,6 +11,7 @@ import os
 import pty
 import re
 import select
+import signal
 import sys
 import termios
 import time
@@ -41,6 +42,7 @@ def main():
     process = os.fork()
     if process == 0:
         os.setsid()
+        signal.signal(signal.SIGINT, signal.SIG_DFL)  # (a shell ignores it for what it runs behind itself)
         os.close(os.open(os.ttyname(slave), os.O_RDWR))  # it is then the terminal that controls it
         for descriptor in range(3):
             os.dup2(slave, descriptor)
