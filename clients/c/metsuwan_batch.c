@@ -345,6 +345,7 @@ static int give_each(kmip_batch *batch) {
 static int says_nothing(kmip_client *client) {
     static const char nothing[] = "{\"answer\":{}}";
     memcpy(client->line.bytes, nothing, sizeof nothing);
+    client->walk.item.at = NULL;
     client->response_len = 0;
     return client->status = KMIP_ANSWERED;
 }

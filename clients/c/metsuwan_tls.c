@@ -85,6 +85,7 @@ static void free_client(kmip_client *client) {
     kmip_room_free(&client->response);
     kmip_room_free(&client->line);
     kmip_room_free(&client->value);
+    kmip_room_free(&client->item);
     kmip_room_free(&client->pem);
     free(client);
 }
@@ -343,6 +344,7 @@ static int32_t write_line(kmip_client *client, int64_t *length) {
    once more. */
 static int32_t line_of(kmip_client *client) {
     size_t most = client->response_len;
+    client->walk.item.at = NULL;
     if (most <= (SIZE_MAX - 4096) / 2 && !kmip_room_has(&client->line, 2 * most + 4096)) return -1;
     for (;;) {
         int64_t length = 0;
@@ -398,6 +400,7 @@ void kmip_forget_call(kmip_client *client) {
 
 int kmip_begin(kmip_client *client, const char *operation) {
     kmip_forget_call(client);
+    client->walk.item.at = NULL;
     client->response_len = 0;
     client->status = KMIP_LOST;
     client->sent = false;
@@ -649,7 +652,7 @@ bool kmip_was_sent(const kmip_client *client) {
 /* Writes the value at a path of the last answer to client->value, with a byte 0 after it. */
 static bool take_value(kmip_client *client, const char *path, bool hex, size_t *length) {
     if (!client || client->status != KMIP_ANSWERED) return false;
-    int64_t found = kmip_value_of(kmip_line(client), path, hex, &client->value);
+    int64_t found = kmip_value_at(client, path, hex);
     if (found < 0) return false;
     *length = (size_t)found;
     return true;
@@ -662,11 +665,15 @@ const uint8_t *kmip_bytes(kmip_client *client, const char *path, size_t *length)
     return client->value.bytes;
 }
 
-const char *kmip_text(kmip_client *client, const char *path, size_t *length) {
-    size_t found = 0;
-    if (!take_value(client, path, false, &found)) return NULL;
-    const char *text = (const char *)client->value.bytes;
+const char *kmip_text_of(const kmip_room *value, size_t found, size_t *length) {
+    const char *text = (const char *)value->bytes;
     if (!length && strlen(text) != found) return NULL;
     if (length) *length = found;
     return text;
+}
+
+const char *kmip_text(kmip_client *client, const char *path, size_t *length) {
+    size_t found = 0;
+    return take_value(client, path, false, &found) ? kmip_text_of(&client->value, found, length)
+                                                   : NULL;
 }

@@ -420,10 +420,46 @@ bool kmip_was_sent(const kmip_client *client);
    `length` may be null. Where it is, kmip_text is null for a text that has a byte 0 within, which C
    would take for its end.
 
+   The items of a list may be asked for one after the other, as unique_identifiers.0, .1, ..: the
+   line is then read once in all, and not once for each.
+
    Both, and kmip_pem, stay until the next of the three and until kmip_close; so one of them may be
    a word of the next call. */
 const uint8_t *kmip_bytes(kmip_client *client, const char *path, size_t *length);
 const char *kmip_text(kmip_client *client, const char *path, size_t *length);
+
+/* How many items the list at a path of the last answer has: a list of JSON, as unique_identifiers,
+   where any other value is one item; in a tree the items with this tag, as Attribute, of one
+   structure. 0 where the last call was not answered, or its answer has nothing there. */
+size_t kmip_count(kmip_client *client, const char *path);
+
+/* The items of such a list, from the first to the last:
+
+       kmip_list *found = kmip_list_new(client, "unique_identifiers");
+       while (kmip_list_next(found))
+           kmip_call(client, "activate", kmip_list_text(found, NULL, NULL), NULL);
+       kmip_list_free(found);
+
+   It is a copy: other calls may be made meanwhile, and the client may be closed. The time that it
+   takes to go through it grows as the list does. It is for one thread at a time. */
+typedef struct kmip_list kmip_list;
+
+/* The list at a path of the last answer, before its first item; without items where the answer has
+   nothing there. A null pointer where the last call was not answered, or memory ran out. */
+kmip_list *kmip_list_new(kmip_client *client, const char *path);
+
+/* Goes to the next item. False where there is none, and of a null list. */
+bool kmip_list_next(kmip_list *list);
+
+/* A value of the item at hand, as kmip_bytes and kmip_text have one of an answer: at a path below
+   it, as name or AttributeName, or the item itself where the path is null. A null pointer also
+   where there is no item at hand. It stays until the next of these two of this list, and until
+   kmip_list_free. */
+const uint8_t *kmip_list_bytes(kmip_list *list, const char *path, size_t *length);
+const char *kmip_list_text(kmip_list *list, const char *path, size_t *length);
+
+/* Frees it, and overwrites it first. A null pointer is fine. */
+void kmip_list_free(kmip_list *list);
 
 /* The key or the certificate of the last answer, which was one to `get`, as PEM: a public key in
    PKCS#1 or X.509, a private key in PKCS#1, PKCS#8 or ECPrivateKey, a key of RSA or of a curve whose

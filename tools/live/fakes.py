@@ -481,6 +481,16 @@ def many_operations(wire, request):
     wire.sendall(response(QUERY, [b''.join(enumeration(0x42005C, 1 + i) for i in range(40)) * 1500]))
 
 
+@fake
+def many_objects(wire, request):
+    """answers locate with as many identifiers as the name says, and attributes with as many as the identifier does"""
+    name, asked = value_of(request, '420055', 7), value_of(request, '420094', 7)
+    if name:
+        return wire.sendall(response(operation_of(request), [identifier('object "%d"' % at) for at in range(int(name))]))
+    wire.sendall(response(operation_of(request), [identifier(asked), *(
+        structure(0x420008, text(0x42000A, 'x-%d' % at), text(0x42000B, '\u00e9 %d' % at)) for at in range(int(asked)))]))
+
+
 # Answers to another call, and answers that say other things.
 
 @fake

@@ -226,8 +226,7 @@ static void strangers(const kmip_settings *settings, const char *wanted) {
 static void sizes(const kmip_settings *settings) {
     const size_t old = offsetof(kmip_settings, library),
                  second = offsetof(kmip_settings, reconnect),
-                 third = offsetof(kmip_settings, record),
-                 fourth = offsetof(kmip_settings, server);
+                 third = offsetof(kmip_settings, record), fourth = offsetof(kmip_settings, server);
     const struct {
         size_t size;
         int status;
