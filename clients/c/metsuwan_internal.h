@@ -266,6 +266,9 @@ HIDDEN bool kmip_tell_record(kmip_client *client);
 /* Keeps what came of a call. After a status that loses the connection it is closed. */
 HIDDEN int kmip_ends_as(kmip_client *client, int status);
 
+/* The least room for a line: that of an error always fits. */
+#define KMIP_LINE 4096
+
 /* Keeps a status and the line of an error of this client; the second closes the connection after a
    status that loses it. So do the next two, where memory ran out. */
 HIDDEN int kmip_says(kmip_client *client, int status, const char *kind, const char *text);

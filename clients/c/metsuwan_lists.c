@@ -191,7 +191,7 @@ size_t kmip_count(kmip_client *client, const char *path) {
     list_place place;
     kmip_span item;
     size_t count = 0;
-    if (!client || client->status != KMIP_ANSWERED) return 0;
+    if (!client || client->status != KMIP_ANSWERED || !path) return 0;
     if (!find_list(kmip_line(client), (kmip_span){path, strlen(path)}, &place)) return 0;
     for (kmip_items left = items_of(place); next_item(&left, &item);)
         count++;
@@ -214,7 +214,7 @@ static bool keep_list(kmip_list *list, list_place place) {
 
 kmip_list *kmip_list_new(kmip_client *client, const char *path) {
     list_place place;
-    if (!client || client->status != KMIP_ANSWERED) return NULL;
+    if (!client || client->status != KMIP_ANSWERED || !path) return NULL;
     kmip_list *list = calloc(1, sizeof *list);
     if (!list || !find_list(kmip_line(client), (kmip_span){path, strlen(path)}, &place))
         return list;

@@ -212,8 +212,9 @@ int kmip_connect(const kmip_settings *settings, kmip_client **client, char *erro
        kmip_call(client, "encrypt", "5", "68656C6C6F", "mode=CBC", "random-iv=true", NULL)
 
    An empty identifier is KMIP_CALL_GRAMMAR: a server may take it for the last object that was made
-   on the connection. So is `sign` with both `prehashed` and `hash=`: KMIP 1.2 has no digested data,
-   and the server would digest the digest. So are the bytes of a PEM for `register`.
+   on the connection. So is a null pointer in the place of the call's name or of the words, and
+   `sign` with both `prehashed` and `hash=`: KMIP 1.2 has no digested data, and the server would
+   digest the digest. So are the bytes of a PEM for `register`.
 
    `locate` takes a single word as a name, whatever stands in it. Attributes stand behind `where`,
    which may be left out before two or more:
@@ -238,7 +239,7 @@ int kmip_call_words(kmip_client *client, const char *call, const char *const *wo
                             kmip_text_word("mode=ECB")};
        kmip_call_array(client, "encrypt", words, 3)
 
-   A word whose `bytes` are null is KMIP_CALL_GRAMMAR. `words` may be null where there are none. */
+   A word whose `bytes` are null is KMIP_CALL_GRAMMAR. `words` may be null where `count` is 0. */
 int kmip_call_array(kmip_client *client, const char *call, const kmip_word *words, size_t count);
 
 /* Makes a call of any operation of KMIP 1.0 to 1.2, and returns its status, as kmip_call does. Its
@@ -248,7 +249,8 @@ int kmip_call_array(kmip_client *client, const char *call, const kmip_word *word
 
    The answer is the line, {"answer":ITEM}, with the response's payload. kmip_text and kmip_bytes
    have its values, and kmip_pem that of Get. Whether it is about the object that was asked about is
-   the caller's to look at. A payload with an empty UniqueIdentifier is KMIP_CALL_GRAMMAR.
+   the caller's to look at. A payload with an empty UniqueIdentifier is KMIP_CALL_GRAMMAR, and so is
+   a null pointer.
 
    The request has eight random bytes as its Unique Batch Item ID. A response with another one, or
    with none, is KMIP_LOST, KMIP_KIND_OTHER_ANSWER: it is that of another call. Where the system has
@@ -265,8 +267,8 @@ int kmip_operation(kmip_client *client, const char *name, const char *version, c
    told
 
    Its identifier is then kmip_text(client, "UniqueIdentifier", NULL). KMIP_CALL_GRAMMAR: it is
-   neither DER nor PEM or no certificate, as a private key, or the name or the usage is none;
-   nothing was sent. */
+   neither DER nor PEM or no certificate, as a private key, a null pointer, or has no bytes; or the
+   name or the usage is none. Then nothing was sent, and the connection stays. */
 int kmip_register_certificate(kmip_client *client, const void *certificate, size_t length,
                               const char *name, const char *usage);
 
@@ -279,14 +281,15 @@ int kmip_register_certificate(kmip_client *client, const void *certificate, size
                         DSA or of a curve, in PKCS#8, PKCS#1 or ECPrivateKey, or in X.509
                         (SubjectPublicKeyInfo) or PKCS#1
 
-   KMIP_CALL_GRAMMAR: it is none, a key of the other kind, or an encrypted one, or KMIP 1.2 has no
-   name for its algorithm; nothing was sent. */
+   KMIP_CALL_GRAMMAR: it is none, a null pointer, a key of the other kind, or an encrypted one, or
+   KMIP 1.2 has no name for its algorithm. Then nothing was sent, and the connection stays. */
 int kmip_register_private_key(kmip_client *client, const void *pem, size_t length, const char *name,
                               const char *usage);
 int kmip_register_public_key(kmip_client *client, const void *pem, size_t length, const char *name,
                              const char *usage);
 
-/* The same with a secret that is no key, whatever its bytes: `kind` is "Password" or "Seed". */
+/* The same with a secret that is no key, whatever its bytes, but one at least: `kind` is "Password" or
+   "Seed". */
 int kmip_register_secret(kmip_client *client, const void *data, size_t length, const char *kind,
                          const char *name, const char *usage);
 
@@ -445,7 +448,8 @@ size_t kmip_count(kmip_client *client, const char *path);
 typedef struct kmip_list kmip_list;
 
 /* The list at a path of the last answer, before its first item; without items where the answer has
-   nothing there. A null pointer where the last call was not answered, or memory ran out. */
+   nothing there. A null pointer where the last call was not answered, `path` is null, or memory ran
+   out. */
 kmip_list *kmip_list_new(kmip_client *client, const char *path);
 
 /* Goes to the next item. False where there is none, and of a null list. */
