@@ -131,6 +131,7 @@ kmip_kind kmip_kind_of(const char *line, int status) {
     if (status == KMIP_CALL_GRAMMAR) return KMIP_KIND_GRAMMAR;
     if (error && is_name(error, "SerializeError")) return KMIP_KIND_NO_FORM;
     if (error && is_name(error, "NotDone")) return KMIP_KIND_NOT_DONE;
+    if (error && is_name(error, "Undone")) return KMIP_KIND_UNDONE;
     if (error && is_name(error, "ConnectError")) return KMIP_KIND_CONNECT;
     if (error && is_name(error, "RequestWriteError")) return KMIP_KIND_WRITE;
     if (error && is_name(error, "ResponseReadError")) return KMIP_KIND_READ;

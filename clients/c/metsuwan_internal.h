@@ -212,6 +212,9 @@ struct kmip_client {
 /* Begins a call: KMIP_ANSWERED, or the status of what went wrong. At its end its words and texts are
    forgotten. */
 HIDDEN int kmip_begin(kmip_client *client, const char *operation);
+
+/* The same of one that is not sent, and wants no connection. */
+HIDDEN int kmip_begin_unsent(kmip_client *client, const char *operation);
 HIDDEN void kmip_forget_call(kmip_client *client);
 
 /* Makes the request of a call, in client->request: KMIP_ANSWERED and its length, or the status of

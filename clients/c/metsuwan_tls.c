@@ -411,7 +411,7 @@ void kmip_forget_call(kmip_client *client) {
     client->item_id_len = 0;
 }
 
-int kmip_begin(kmip_client *client, const char *operation) {
+int kmip_begin_unsent(kmip_client *client, const char *operation) {
     kmip_forget_call(client);
     client->walk.item.at = NULL;
     client->response_len = 0;
@@ -420,7 +420,12 @@ int kmip_begin(kmip_client *client, const char *operation) {
     begin_time(client, operation);
     if (!kmip_room_has(&client->line, KMIP_LINE) || !kmip_room_has(&client->response, 4096))
         return kmip_out_of_memory(client);
-    if (client->wire || kmip_reconnects(client)) return KMIP_ANSWERED;
+    return KMIP_ANSWERED;
+}
+
+int kmip_begin(kmip_client *client, const char *operation) {
+    int status = kmip_begin_unsent(client, operation);
+    if (status != KMIP_ANSWERED || client->wire || kmip_reconnects(client)) return status;
     return kmip_fails_as(client, KMIP_LOST, "RequestWriteError",
                          "the connection is closed; nothing was sent");
 }

@@ -318,8 +318,9 @@ typedef enum {
 kmip_batch *kmip_batch_new(kmip_client *client, kmip_on_error on_error);
 
 /* Adds a call, as kmip_call, kmip_call_words, kmip_call_array and kmip_operation make one. Nothing
-   is sent. KMIP_ANSWERED: it is added. KMIP_CALL_GRAMMAR and KMIP_REFUSED: it is none, or its
-   request has no wire form; kmip_line says why, and the batch is as it was. */
+   is sent, and the connection may be closed. KMIP_ANSWERED: it is added. KMIP_CALL_GRAMMAR and
+   KMIP_REFUSED: it is none, or its request has no wire form; kmip_line says why, and the batch is
+   as it was. */
 int kmip_batch_call(kmip_batch *batch, const char *call, ...) KMIP_ENDS_WITH_NULL;
 int kmip_batch_words(kmip_batch *batch, const char *call, const char *const *words);
 int kmip_batch_array(kmip_batch *batch, const char *call, const kmip_word *words, size_t count);
@@ -331,8 +332,8 @@ size_t kmip_batch_count(const kmip_batch *batch);
 
 /* Makes the calls. KMIP_ANSWERED: a response came, and kmip_batch_answer has what it says to each of
    them. KMIP_CALL_GRAMMAR: there are no calls. KMIP_LOST: the connection is lost, or the response is
-   none to this batch: an item of it is of no call, or a call has two, or none where no call before
-   it failed; of no call it is known whether it was done.
+   none to this batch: it has another Batch Count than items, an item of it is of no call, or a call
+   has two, or none where no call before it failed; of no call it is known whether it was done.
 
    The Unique Batch Item IDs are numbers of eight bytes that follow each other, and the first is
    random: so the answer to another batch is of no call of this one. Without random bytes it ends as
@@ -341,9 +342,10 @@ int kmip_batch_send(kmip_batch *batch);
 
 /* Has the answer to the call at this place, from 0, be the last one: its status is returned, as that
    of the single call, and kmip_line, kmip_error_kind, kmip_bytes, kmip_text and kmip_pem are its
-   own. KMIP_REFUSED with {"error":"NotDone",..}: the server has not come to it. KMIP_LOST: the
-   response is none to this call, and kmip_batch_send has closed the connection. KMIP_CALL_GRAMMAR:
-   there is no such call, or no response to it. Nothing is sent, and nothing closed. */
+   own. KMIP_REFUSED with {"error":"NotDone",..}: the server has not come to it; with
+   {"error":"Undone",..}: it has undone it. KMIP_LOST: the response is none to this call, and
+   kmip_batch_send has closed the connection. KMIP_CALL_GRAMMAR: there is no such call, or no
+   response to it. Nothing is sent, and nothing closed. */
 int kmip_batch_answer(kmip_batch *batch, size_t at);
 
 /* Frees it, and overwrites its requests and responses first. A null pointer is fine. */
@@ -392,7 +394,8 @@ typedef enum {
     KMIP_KIND_MEMORY,                 /* out of memory */
     KMIP_KIND_CONNECT,                /* lost: the connection was, and could not be opened again; or
                                          the server refused the certificate, and read no request */
-    KMIP_KIND_NOT_DONE                /* the server has not done this call of a batch */
+    KMIP_KIND_NOT_DONE,               /* the server has not done this call of a batch, .. */
+    KMIP_KIND_UNDONE                  /* .. or has undone it, since another one failed */
 } kmip_kind;
 
 /* A null client is KMIP_KIND_WRITE: its calls are lost, and send nothing. */
