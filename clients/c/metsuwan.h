@@ -89,9 +89,10 @@ typedef struct {
     bool is_data;
 } kmip_word;
 
-/* The words of a text that a zero ends, and of data. They keep the pointer, and copy nothing. */
+/* The words of a text that a zero ends, and of data. They keep the pointer, and copy nothing. That of
+   a null text is null, too, and so no word. */
 static inline kmip_word kmip_text_word(const char *text) {
-    kmip_word word = {(const uint8_t *)text, strlen(text), false};
+    kmip_word word = {(const uint8_t *)text, text ? strlen(text) : 0, false};
     return word;
 }
 

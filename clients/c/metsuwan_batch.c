@@ -10,7 +10,7 @@
 #include <string.h>
 
 enum { STRUCTURE = 1, INTEGER = 2, ENUMERATION = 5, BYTES = 8, HEAD = 8 };
-enum { FAILED = 1 }; /* a Result Status */
+enum { FAILED = 1, UNDONE = 3 }; /* of a Result Status */
 enum {
     BATCH_COUNT = 0x42000D,
     CONTINUATION = 0x42000E,
@@ -20,6 +20,7 @@ enum {
     REQUEST_HEADER = 0x420077,
     REQUEST_MESSAGE = 0x420078,
     RESPONSE_HEADER = 0x42007A,
+    RESPONSE_MESSAGE = 0x42007B,
     RESULT_STATUS = 0x42007F,
     ITEM_ID = 0x420093
 };
@@ -32,7 +33,8 @@ typedef struct {
     kmip_room request;
     size_t request_len;
     size_t place; /* that of its item in the response; 0: the server has not come to it */
-    bool failed;  /* the item says that it has failed */
+    bool failed;  /* the item says that it has failed, .. */
+    bool undone;  /* .. or that the server has undone it */
 } item;
 
 struct kmip_batch {
@@ -239,18 +241,16 @@ static void put_item_alone(writer *out, const part *batch_item) {
 /* Writes the response to a single call, the message with the batch item at this place and no other,
    and says how long it is; 0: memory ran out. */
 static size_t write_single(const kmip_batch *batch, size_t place, kmip_room *into) {
+    const uint8_t *response = batch->response.bytes;
     writer out = {*into, 0, false};
-    part message, own = {0};
-    if (read_part(batch->response.bytes, batch->response_len, &message)) return 0;
+    part message, header, batch_item;
+    if (read_part(response, batch->response_len, &message) ||
+        read_part(message.contents, message.length, &header) ||
+        read_part(response + place, batch->response_len - place, &batch_item))
+        return 0;
     size_t single = put_structure(&out, message.tag);
-    while (next_part(&message, &own)) {
-        if (is_structure(&own, RESPONSE_HEADER))
-            put_header_of_one(&out, &own);
-        else if (own.tag != BATCH_ITEM)
-            append(&out, own.whole, own.whole_len);
-        else if (own.whole == batch->response.bytes + place)
-            put_item_alone(&out, &own);
-    }
+    put_header_of_one(&out, &header);
+    put_item_alone(&out, &batch_item);
     end_structure(&out, single);
     *into = out.room;
     return out.failed ? 0 : out.length;
@@ -264,6 +264,40 @@ static const char *wrong_with_message(const part *message) {
         if (is_structure(&own, RESPONSE_HEADER) || is_structure(&own, BATCH_ITEM))
             wrong = wrong_with(&own);
     return wrong;
+}
+
+/* The number of the only item with this tag in a structure that is well formed; false: there is none,
+   or more, or it is of another type. */
+static bool only_number(const part *structure, uint32_t tag, uint8_t type, uint32_t *into) {
+    part own = {0};
+    size_t count = 0;
+    bool is_number = true;
+    while (next_part(structure, &own)) {
+        if (own.tag != tag) continue;
+        is_number = own.type == type && own.length == 4;
+        if (is_number) *into = kmip_number_at(own.contents);
+        count++;
+    }
+    return count == 1 && is_number;
+}
+
+/* What is wrong with a message that is well formed as the response to a batch (KMIP 1.0, 7.1): it has
+   one header, which stands first, and behind it batch items, so many as its Batch Count says (6.14);
+   or a null pointer. */
+static const char *wrong_with_response(const part *message) {
+    static const char other[] = "not a response message";
+    part own = {0}, header;
+    size_t items = 0;
+    uint32_t count = 0;
+    if (!is_structure(message, RESPONSE_MESSAGE) || !next_part(message, &own) ||
+        !is_structure(&own, RESPONSE_HEADER))
+        return other;
+    header = own;
+    for (; next_part(message, &own); items++)
+        if (!is_structure(&own, BATCH_ITEM)) return other;
+    return only_number(&header, BATCH_COUNT, INTEGER, &count) && count == items
+               ? NULL
+               : "the Batch Count is not that of the items of the response";
 }
 
 /* The place of the call that a batch item of a response is of; the batch's count: it is of none. */
@@ -280,11 +314,10 @@ static size_t place_of_call(const kmip_batch *batch, const part *batch_item) {
     return ids == 1 && place < batch->count ? (size_t)place : batch->count;
 }
 
-/* Whether a batch item of a response says that its call has failed. */
-static bool has_failed(const part *batch_item) {
-    part status;
-    return find_part(batch_item, RESULT_STATUS, &status) && status.type == ENUMERATION &&
-           status.length == 4 && kmip_number_at(status.contents) == FAILED;
+/* Whether a batch item of a response says that this came of its call. */
+static bool has_status(const part *batch_item, uint32_t wanted) {
+    uint32_t status = 0;
+    return only_number(batch_item, RESULT_STATUS, ENUMERATION, &status) && status == wanted;
 }
 
 /* Whether the response is a failure of the whole message, as where a server takes no batches: one
@@ -297,7 +330,7 @@ static bool fails_whole(const part *message, part *batch_item) {
         *batch_item = own;
         count++;
     }
-    return count == 1 && !find_part(batch_item, ITEM_ID, &id) && has_failed(batch_item);
+    return count == 1 && !find_part(batch_item, ITEM_ID, &id) && has_status(batch_item, FAILED);
 }
 
 /* Gives a call its item in the response: KMIP_ANSWERED, or what went wrong. */
@@ -306,7 +339,8 @@ static int give(kmip_batch *batch, size_t call, const part *batch_item) {
         return kmip_fails_as(batch->client, KMIP_LOST, "InternalError",
                              "an item of the response is of no call of the batch");
     batch->items[call].place = (size_t)(batch_item->whole - batch->response.bytes);
-    batch->items[call].failed = has_failed(batch_item);
+    batch->items[call].failed = has_status(batch_item, FAILED);
+    batch->items[call].undone = has_status(batch_item, UNDONE);
     return KMIP_ANSWERED;
 }
 
@@ -330,6 +364,8 @@ static int give_each(kmip_batch *batch) {
     int status = KMIP_ANSWERED;
     if (!wrong) wrong = wrong_with_message(&message);
     if (wrong) return kmip_fails_as(batch->client, KMIP_LOST, "DeserializeError", wrong);
+    wrong = wrong_with_response(&message);
+    if (wrong) return kmip_fails_as(batch->client, KMIP_LOST, "InternalError", wrong);
     if (fails_whole(&message, &own)) {
         for (size_t i = 0; i < batch->count && status == KMIP_ANSWERED; i++)
             status = give(batch, i, &own);
@@ -345,6 +381,7 @@ static int give_each(kmip_batch *batch) {
 static int says_nothing(kmip_client *client) {
     static const char nothing[] = "{\"answer\":{}}";
     memcpy(client->line.bytes, nothing, sizeof nothing);
+    client->walk.item.at = NULL;
     client->response_len = 0;
     return client->status = KMIP_ANSWERED;
 }
@@ -364,6 +401,9 @@ static int read_item(const kmip_batch *batch, const item *one) {
     client->payload = one->payload;
     int status = kmip_read_answer(client);
     kmip_forget_call(client);
+    if (status == KMIP_REFUSED && one->undone)
+        return kmip_says(client, KMIP_REFUSED, "Undone",
+                         "the server has undone this call of the batch");
     return status;
 }
 
@@ -385,7 +425,7 @@ static void forget_response(kmip_batch *batch) {
     batch->answered = batch->response_len = 0;
     for (size_t i = 0; i < batch->count; i++) {
         batch->items[i].place = 0;
-        batch->items[i].failed = false;
+        batch->items[i].failed = batch->items[i].undone = false;
     }
 }
 
@@ -538,7 +578,7 @@ static int add(kmip_batch *batch, size_t length) {
 static int add_words(kmip_batch *batch, const char *call, kmip_words words) {
     kmip_client *client = batch->client;
     size_t length = 0;
-    int status = kmip_begin(client, call);
+    int status = kmip_begin_unsent(client, call);
     if (status == KMIP_ANSWERED) status = kmip_make_call(client, words, false, &length);
     if (status == KMIP_ANSWERED) status = add(batch, length);
     kmip_forget_call(client);
@@ -578,7 +618,7 @@ static int add_operation(kmip_batch *batch, const char *name, const char *versio
                          const char *payload) {
     kmip_client *client = batch->client;
     size_t length = 0;
-    int status = kmip_begin(client, name);
+    int status = kmip_begin_unsent(client, name);
     if (status == KMIP_ANSWERED)
         status = kmip_make_operation(client, name, version, payload, false, &length);
     if (status == KMIP_ANSWERED) status = add(batch, length);

@@ -45,8 +45,7 @@ static const char *past_string(const char *at) {
     return *at ? at + 1 : at;
 }
 
-/* What stands after the value that begins here. */
-static const char *past_value(const char *at) {
+const char *kmip_past_value(const char *at) {
     size_t levels = 0;
     while (*at && (levels > 0 || !strchr(",}]", *at))) {
         if (*at == '"') {
@@ -61,15 +60,19 @@ static const char *past_value(const char *at) {
 }
 
 const char *kmip_member(const char *at, const char *name) {
-    size_t length = strlen(name);
+    return kmip_member_named(at, (kmip_span){name, strlen(name)});
+}
+
+const char *kmip_member_named(const char *at, kmip_span name) {
     while (*at == '{' || *at == ',') {
         const char *own = at + 1;
         if (*own != '"') break;
         at = past_string(own);
         if (*at != ':') break;
-        bool same = (size_t)(at - own) == length + 2 && memcmp(own + 1, name, length) == 0;
+        bool same =
+            (size_t)(at - own) == name.length + 2 && memcmp(own + 1, name.at, name.length) == 0;
         if (same) return at + 1;
-        at = past_value(at + 1);
+        at = kmip_past_value(at + 1);
     }
     return NULL;
 }
@@ -128,6 +131,7 @@ kmip_kind kmip_kind_of(const char *line, int status) {
     if (status == KMIP_CALL_GRAMMAR) return KMIP_KIND_GRAMMAR;
     if (error && is_name(error, "SerializeError")) return KMIP_KIND_NO_FORM;
     if (error && is_name(error, "NotDone")) return KMIP_KIND_NOT_DONE;
+    if (error && is_name(error, "Undone")) return KMIP_KIND_UNDONE;
     if (error && is_name(error, "ConnectError")) return KMIP_KIND_CONNECT;
     if (error && is_name(error, "RequestWriteError")) return KMIP_KIND_WRITE;
     if (error && is_name(error, "ResponseReadError")) return KMIP_KIND_READ;

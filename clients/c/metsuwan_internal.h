@@ -41,6 +41,28 @@ HIDDEN kmip_words kmip_words_of_array(const char *call, const kmip_word *words, 
 HIDDEN kmip_words kmip_words_of_texts(const char *call, const char *const *texts);
 HIDDEN kmip_words kmip_words_of_list(const char *call, va_list given);
 
+/* A part of a text. */
+typedef struct {
+    const char *at;
+    size_t length;
+} kmip_span;
+
+/* The items of a list that are left: values of an array of JSON, with a comma between two; of a tree
+   those among them that have this tag. */
+typedef struct {
+    const char *next; /* a null pointer: there is none */
+    bool is_alone;    /* it is in no array */
+    kmip_span tag;    /* a null pointer where it is no tree */
+} kmip_items;
+
+/* The item of a list of the last answer that was asked for last. */
+typedef struct {
+    char list[100]; /* the path of the list */
+    size_t index;
+    kmip_span item; /* where it stands in the line; a null pointer: none was asked for */
+    kmip_items left;
+} kmip_walk;
+
 /* A number of four bytes, as TTLV has it (KMIP 1.0, 9.1.1): read, and written. */
 static inline uint32_t kmip_number_at(const uint8_t *at) {
     return (uint32_t)at[0] << 24 | (uint32_t)at[1] << 16 | (uint32_t)at[2] << 8 | at[3];
@@ -169,6 +191,8 @@ struct kmip_client {
     bool refused;     /* .. or since the server refused the certificate .. */
     char reason[300]; /* .. and why */
     kmip_room request, response, line, value, pem;
+    kmip_room item; /* the line of an item of a list */
+    kmip_walk walk;
     size_t request_len, response_len;
     /* while a call is made its words, or of any operation its three texts; else null pointers, .. */
     kmip_words words;
@@ -188,6 +212,9 @@ struct kmip_client {
 /* Begins a call: KMIP_ANSWERED, or the status of what went wrong. At its end its words and texts are
    forgotten. */
 HIDDEN int kmip_begin(kmip_client *client, const char *operation);
+
+/* The same of one that is not sent, and wants no connection. */
+HIDDEN int kmip_begin_unsent(kmip_client *client, const char *operation);
 HIDDEN void kmip_forget_call(kmip_client *client);
 
 /* Makes the request of a call, in client->request: KMIP_ANSWERED and its length, or the status of
@@ -241,6 +268,9 @@ HIDDEN bool kmip_tell_record(kmip_client *client);
 
 /* Keeps what came of a call. After a status that loses the connection it is closed. */
 HIDDEN int kmip_ends_as(kmip_client *client, int status);
+
+/* The least room for a line: that of an error always fits. */
+#define KMIP_LINE 4096
 
 /* Keeps a status and the line of an error of this client; the second closes the connection after a
    status that loses it. So do the next two, where memory ran out. */
@@ -345,6 +375,10 @@ HIDDEN kmip_kind kmip_kind_of(const char *line, int status);
 /* The value of a member of the object of JSON that begins here, which has no white space; or a null
    pointer. */
 HIDDEN const char *kmip_member(const char *at, const char *name);
+HIDDEN const char *kmip_member_named(const char *at, kmip_span name);
+
+/* What stands after the value of JSON that begins here. */
+HIDDEN const char *kmip_past_value(const char *at);
 
 /* Whether the answer of a line is a tree, an item of KMIP's JSON. */
 HIDDEN bool kmip_is_tree(const char *line);
@@ -359,6 +393,13 @@ HIDDEN size_t kmip_write_character(const char *text, char into[8]);
 /* Writes the value at a path of a line to room that is made for it, with a byte 0 after it, and says
    how many bytes it has; -1: there is no such value, or memory ran out. */
 HIDDEN int64_t kmip_value_of(const char *line, const char *path, bool hex, kmip_room *into);
+
+/* The same of the last answer, to client->value: items of a list that are asked for in their order
+   are found in one pass. */
+HIDDEN int64_t kmip_value_at(kmip_client *client, const char *path, bool hex);
+
+/* A value as a text; a null pointer where it has a byte 0 within, and its length is not asked for. */
+HIDDEN const char *kmip_text_of(const kmip_room *value, size_t found, size_t *length);
 
 /* Writes the payload of a request to register a certificate; or says what is wrong with it. Without
    bytes, memory ran out. `name` and `usage` may be null. */

@@ -85,6 +85,7 @@ static void free_client(kmip_client *client) {
     kmip_room_free(&client->response);
     kmip_room_free(&client->line);
     kmip_room_free(&client->value);
+    kmip_room_free(&client->item);
     kmip_room_free(&client->pem);
     free(client);
 }
@@ -119,7 +120,7 @@ static kmip_client *client_of(const kmip_settings *settings) {
 
 /* Begins the time of the opening, or of a call, and the list of what failed within it. */
 static void begin_time(kmip_client *client, const char *operation) {
-    client->operation = operation;
+    client->operation = operation ? operation : "";
     client->begun = kmip_now();
     client->end = client->seconds > 0 ? client->begun + client->seconds : 0;
     client->tried = 0;
@@ -161,12 +162,23 @@ static int connect_by(const kmip_settings *settings, kmip_client **into, char *e
     return status;
 }
 
+/* What is wrong with the arguments of an opening, or a null pointer; with none the settings are those
+   of this version. */
+static const char *wrong_opening(const kmip_settings *settings, kmip_client *const *client,
+                                 kmip_settings *own) {
+    if (!settings) return "settings is a null pointer";
+    if (!client) return "client is a null pointer";
+    return read_settings(settings, own)
+               ? NULL
+               : "settings do not begin with kmip_defaults, or are of a newer version";
+}
+
 int kmip_connect(const kmip_settings *settings, kmip_client **client, char *error, size_t room) {
     kmip_settings own;
-    *client = NULL;
-    if (!read_settings(settings, &own)) {
-        kmip_error_line(error, room, "ConfigurationError",
-                        "settings do not begin with kmip_defaults, or are of a newer version");
+    if (client) *client = NULL;
+    const char *wrong = wrong_opening(settings, client, &own);
+    if (wrong) {
+        kmip_error_line(error, room, "ConfigurationError", wrong);
         return KMIP_CALL_GRAMMAR;
     }
     kmip_queue queue;
@@ -205,6 +217,8 @@ int kmip_ends_as(kmip_client *client, int status) {
 }
 
 int kmip_says(kmip_client *client, int status, const char *kind, const char *text) {
+    /* (before the first call there is none) */
+    if (!kmip_room_has(&client->line, KMIP_LINE)) return kmip_says_no_memory(client);
     kmip_error_line((char *)client->line.bytes, client->line.room, kind, text);
     return client->status = status;
 }
@@ -343,6 +357,7 @@ static int32_t write_line(kmip_client *client, int64_t *length) {
    once more. */
 static int32_t line_of(kmip_client *client) {
     size_t most = client->response_len;
+    client->walk.item.at = NULL;
     if (most <= (SIZE_MAX - 4096) / 2 && !kmip_room_has(&client->line, 2 * most + 4096)) return -1;
     for (;;) {
         int64_t length = 0;
@@ -396,15 +411,21 @@ void kmip_forget_call(kmip_client *client) {
     client->item_id_len = 0;
 }
 
-int kmip_begin(kmip_client *client, const char *operation) {
+int kmip_begin_unsent(kmip_client *client, const char *operation) {
     kmip_forget_call(client);
+    client->walk.item.at = NULL;
     client->response_len = 0;
     client->status = KMIP_LOST;
     client->sent = false;
     begin_time(client, operation);
-    if (!kmip_room_has(&client->line, 4096) || !kmip_room_has(&client->response, 4096))
+    if (!kmip_room_has(&client->line, KMIP_LINE) || !kmip_room_has(&client->response, 4096))
         return kmip_out_of_memory(client);
-    if (client->wire || kmip_reconnects(client)) return KMIP_ANSWERED;
+    return KMIP_ANSWERED;
+}
+
+int kmip_begin(kmip_client *client, const char *operation) {
+    int status = kmip_begin_unsent(client, operation);
+    if (status != KMIP_ANSWERED || client->wire || kmip_reconnects(client)) return status;
     return kmip_fails_as(client, KMIP_LOST, "RequestWriteError",
                          "the connection is closed; nothing was sent");
 }
@@ -486,6 +507,7 @@ static bool is_pem(const kmip_word *word) {
 /* What a call of these words would do that is not meant, or of which word there is none. */
 static const char *wrong_words(const kmip_words *words, char *into, size_t room) {
     const char *name = (const char *)words->at[0].bytes;
+    if (!name) return "the name of the call is a null pointer";
     bool registers = strcmp(name, "register") == 0;
     for (size_t i = 1; i < words->count; i++) {
         if (!words->at[i].bytes) {
@@ -510,6 +532,11 @@ int kmip_make_call(kmip_client *client, kmip_words words, bool is_single, size_t
 
 int kmip_make_operation(kmip_client *client, const char *name, const char *version,
                         const char *payload, bool is_single, size_t *length) {
+    const char *wrong = !name      ? "the name of the operation is a null pointer"
+                        : !version ? "the version is a null pointer"
+                        : !payload ? "the payload is a null pointer"
+                                   : NULL;
+    if (wrong) return kmip_fails_as(client, KMIP_CALL_GRAMMAR, "GrammarError", wrong);
     client->name = name;
     client->version = version;
     client->payload = payload;
@@ -575,12 +602,30 @@ int kmip_operation(kmip_client *client, const char *name, const char *version,
     return status;
 }
 
-/* What is registered, but for a certificate: a kind of key, or of a secret. */
+/* The kinds of what is registered. */
+#define CERTIFICATE "Certificate"
+#define PRIVATE_KEY "PrivateKey"
+#define PUBLIC_KEY "PublicKey"
+
+static bool is_key(const char *kind) {
+    return strcmp(kind, PRIVATE_KEY) == 0 || strcmp(kind, PUBLIC_KEY) == 0;
+}
+
+/* Writes the payload of what is registered, of a kind above, or a secret of this kind; or says what is
+   wrong with it. */
 static const char *write_object(kmip_room *into, const char *kind, const void *bytes, size_t length,
                                 const char *name, const char *usage) {
-    if (!kind) return kmip_write_certificate(into, bytes, length, name, usage);
-    if (strcmp(kind, "PrivateKey") == 0 || strcmp(kind, "PublicKey") == 0)
-        return kmip_write_key(into, kind, bytes, length, name, usage);
+    bool is_certificate = strcmp(kind, CERTIFICATE) == 0;
+    if (!bytes)
+        return is_certificate ? "the certificate is a null pointer"
+               : is_key(kind) ? "the key is a null pointer"
+                              : "the secret is a null pointer";
+    if (length == 0)
+        return is_certificate ? "the certificate is empty"
+               : is_key(kind) ? "the key is empty"
+                              : "the secret is empty";
+    if (is_certificate) return kmip_write_certificate(into, bytes, length, name, usage);
+    if (is_key(kind)) return kmip_write_key(into, kind, bytes, length, name, usage);
     return kmip_write_secret(into, bytes, length, kind, name, usage);
 }
 
@@ -612,23 +657,23 @@ static int register_object(kmip_client *client, const char *kind, const void *by
 
 int kmip_register_certificate(kmip_client *client, const void *certificate, size_t length,
                               const char *name, const char *usage) {
-    return register_object(client, NULL, certificate, length, name, usage);
+    return register_object(client, CERTIFICATE, certificate, length, name, usage);
 }
 
 int kmip_register_private_key(kmip_client *client, const void *pem, size_t length, const char *name,
                               const char *usage) {
-    return register_object(client, "PrivateKey", pem, length, name, usage);
+    return register_object(client, PRIVATE_KEY, pem, length, name, usage);
 }
 
 int kmip_register_public_key(kmip_client *client, const void *pem, size_t length, const char *name,
                              const char *usage) {
-    return register_object(client, "PublicKey", pem, length, name, usage);
+    return register_object(client, PUBLIC_KEY, pem, length, name, usage);
 }
 
 int kmip_register_secret(kmip_client *client, const void *data, size_t length, const char *kind,
                          const char *name, const char *usage) {
-    bool is_key = kind && (strcmp(kind, "PrivateKey") == 0 || strcmp(kind, "PublicKey") == 0);
-    return register_object(client, kind && !is_key ? kind : "none", data, length, name, usage);
+    bool is_other = !kind || is_key(kind) || strcmp(kind, CERTIFICATE) == 0;
+    return register_object(client, is_other ? "none" : kind, data, length, name, usage);
 }
 
 const char *kmip_line(const kmip_client *client) {
@@ -648,8 +693,8 @@ bool kmip_was_sent(const kmip_client *client) {
 
 /* Writes the value at a path of the last answer to client->value, with a byte 0 after it. */
 static bool take_value(kmip_client *client, const char *path, bool hex, size_t *length) {
-    if (!client || client->status != KMIP_ANSWERED) return false;
-    int64_t found = kmip_value_of(kmip_line(client), path, hex, &client->value);
+    if (!client || client->status != KMIP_ANSWERED || !path) return false;
+    int64_t found = kmip_value_at(client, path, hex);
     if (found < 0) return false;
     *length = (size_t)found;
     return true;
@@ -662,11 +707,15 @@ const uint8_t *kmip_bytes(kmip_client *client, const char *path, size_t *length)
     return client->value.bytes;
 }
 
-const char *kmip_text(kmip_client *client, const char *path, size_t *length) {
-    size_t found = 0;
-    if (!take_value(client, path, false, &found)) return NULL;
-    const char *text = (const char *)client->value.bytes;
+const char *kmip_text_of(const kmip_room *value, size_t found, size_t *length) {
+    const char *text = (const char *)value->bytes;
     if (!length && strlen(text) != found) return NULL;
     if (length) *length = found;
     return text;
+}
+
+const char *kmip_text(kmip_client *client, const char *path, size_t *length) {
+    size_t found = 0;
+    return take_value(client, path, false, &found) ? kmip_text_of(&client->value, found, length)
+                                                   : NULL;
 }

@@ -212,8 +212,9 @@ int kmip_connect(const kmip_settings *settings, kmip_client **client, char *erro
        kmip_call(client, "encrypt", "5", "68656C6C6F", "mode=CBC", "random-iv=true", NULL)
 
    An empty identifier is KMIP_CALL_GRAMMAR: a server may take it for the last object that was made
-   on the connection. So is `sign` with both `prehashed` and `hash=`: KMIP 1.2 has no digested data,
-   and the server would digest the digest. So are the bytes of a PEM for `register`.
+   on the connection. So is a null pointer in the place of the call's name or of the words, and
+   `sign` with both `prehashed` and `hash=`: KMIP 1.2 has no digested data, and the server would
+   digest the digest. So are the bytes of a PEM for `register`.
 
    `locate` takes a single word as a name, whatever stands in it. Attributes stand behind `where`,
    which may be left out before two or more:
@@ -238,7 +239,7 @@ int kmip_call_words(kmip_client *client, const char *call, const char *const *wo
                             kmip_text_word("mode=ECB")};
        kmip_call_array(client, "encrypt", words, 3)
 
-   A word whose `bytes` are null is KMIP_CALL_GRAMMAR. `words` may be null where there are none. */
+   A word whose `bytes` are null is KMIP_CALL_GRAMMAR. `words` may be null where `count` is 0. */
 int kmip_call_array(kmip_client *client, const char *call, const kmip_word *words, size_t count);
 
 /* Makes a call of any operation of KMIP 1.0 to 1.2, and returns its status, as kmip_call does. Its
@@ -248,7 +249,8 @@ int kmip_call_array(kmip_client *client, const char *call, const kmip_word *word
 
    The answer is the line, {"answer":ITEM}, with the response's payload. kmip_text and kmip_bytes
    have its values, and kmip_pem that of Get. Whether it is about the object that was asked about is
-   the caller's to look at. A payload with an empty UniqueIdentifier is KMIP_CALL_GRAMMAR.
+   the caller's to look at. A payload with an empty UniqueIdentifier is KMIP_CALL_GRAMMAR, and so is
+   a null pointer.
 
    The request has eight random bytes as its Unique Batch Item ID. A response with another one, or
    with none, is KMIP_LOST, KMIP_KIND_OTHER_ANSWER: it is that of another call. Where the system has
@@ -265,8 +267,8 @@ int kmip_operation(kmip_client *client, const char *name, const char *version, c
    told
 
    Its identifier is then kmip_text(client, "UniqueIdentifier", NULL). KMIP_CALL_GRAMMAR: it is
-   neither DER nor PEM or no certificate, as a private key, or the name or the usage is none;
-   nothing was sent. */
+   neither DER nor PEM or no certificate, as a private key, a null pointer, or has no bytes; or the
+   name or the usage is none. Then nothing was sent, and the connection stays. */
 int kmip_register_certificate(kmip_client *client, const void *certificate, size_t length,
                               const char *name, const char *usage);
 
@@ -279,14 +281,15 @@ int kmip_register_certificate(kmip_client *client, const void *certificate, size
                         DSA or of a curve, in PKCS#8, PKCS#1 or ECPrivateKey, or in X.509
                         (SubjectPublicKeyInfo) or PKCS#1
 
-   KMIP_CALL_GRAMMAR: it is none, a key of the other kind, or an encrypted one, or KMIP 1.2 has no
-   name for its algorithm; nothing was sent. */
+   KMIP_CALL_GRAMMAR: it is none, a null pointer, a key of the other kind, or an encrypted one, or
+   KMIP 1.2 has no name for its algorithm. Then nothing was sent, and the connection stays. */
 int kmip_register_private_key(kmip_client *client, const void *pem, size_t length, const char *name,
                               const char *usage);
 int kmip_register_public_key(kmip_client *client, const void *pem, size_t length, const char *name,
                              const char *usage);
 
-/* The same with a secret that is no key, whatever its bytes: `kind` is "Password" or "Seed". */
+/* The same with a secret that is no key, whatever its bytes, but one at least: `kind` is "Password" or
+   "Seed". */
 int kmip_register_secret(kmip_client *client, const void *data, size_t length, const char *kind,
                          const char *name, const char *usage);
 
@@ -315,8 +318,9 @@ typedef enum {
 kmip_batch *kmip_batch_new(kmip_client *client, kmip_on_error on_error);
 
 /* Adds a call, as kmip_call, kmip_call_words, kmip_call_array and kmip_operation make one. Nothing
-   is sent. KMIP_ANSWERED: it is added. KMIP_CALL_GRAMMAR and KMIP_REFUSED: it is none, or its
-   request has no wire form; kmip_line says why, and the batch is as it was. */
+   is sent, and the connection may be closed. KMIP_ANSWERED: it is added. KMIP_CALL_GRAMMAR and
+   KMIP_REFUSED: it is none, or its request has no wire form; kmip_line says why, and the batch is
+   as it was. */
 int kmip_batch_call(kmip_batch *batch, const char *call, ...) KMIP_ENDS_WITH_NULL;
 int kmip_batch_words(kmip_batch *batch, const char *call, const char *const *words);
 int kmip_batch_array(kmip_batch *batch, const char *call, const kmip_word *words, size_t count);
@@ -328,8 +332,8 @@ size_t kmip_batch_count(const kmip_batch *batch);
 
 /* Makes the calls. KMIP_ANSWERED: a response came, and kmip_batch_answer has what it says to each of
    them. KMIP_CALL_GRAMMAR: there are no calls. KMIP_LOST: the connection is lost, or the response is
-   none to this batch: an item of it is of no call, or a call has two, or none where no call before
-   it failed; of no call it is known whether it was done.
+   none to this batch: it has another Batch Count than items, an item of it is of no call, or a call
+   has two, or none where no call before it failed; of no call it is known whether it was done.
 
    The Unique Batch Item IDs are numbers of eight bytes that follow each other, and the first is
    random: so the answer to another batch is of no call of this one. Without random bytes it ends as
@@ -338,9 +342,10 @@ int kmip_batch_send(kmip_batch *batch);
 
 /* Has the answer to the call at this place, from 0, be the last one: its status is returned, as that
    of the single call, and kmip_line, kmip_error_kind, kmip_bytes, kmip_text and kmip_pem are its
-   own. KMIP_REFUSED with {"error":"NotDone",..}: the server has not come to it. KMIP_LOST: the
-   response is none to this call, and kmip_batch_send has closed the connection. KMIP_CALL_GRAMMAR:
-   there is no such call, or no response to it. Nothing is sent, and nothing closed. */
+   own. KMIP_REFUSED with {"error":"NotDone",..}: the server has not come to it; with
+   {"error":"Undone",..}: it has undone it. KMIP_LOST: the response is none to this call, and
+   kmip_batch_send has closed the connection. KMIP_CALL_GRAMMAR: there is no such call, or no
+   response to it. Nothing is sent, and nothing closed. */
 int kmip_batch_answer(kmip_batch *batch, size_t at);
 
 /* Frees it, and overwrites its requests and responses first. A null pointer is fine. */
@@ -389,7 +394,8 @@ typedef enum {
     KMIP_KIND_MEMORY,                 /* out of memory */
     KMIP_KIND_CONNECT,                /* lost: the connection was, and could not be opened again; or
                                          the server refused the certificate, and read no request */
-    KMIP_KIND_NOT_DONE                /* the server has not done this call of a batch */
+    KMIP_KIND_NOT_DONE,               /* the server has not done this call of a batch, .. */
+    KMIP_KIND_UNDONE                  /* .. or has undone it, since another one failed */
 } kmip_kind;
 
 /* A null client is KMIP_KIND_WRITE: its calls are lost, and send nothing. */
@@ -420,10 +426,47 @@ bool kmip_was_sent(const kmip_client *client);
    `length` may be null. Where it is, kmip_text is null for a text that has a byte 0 within, which C
    would take for its end.
 
+   The items of a list may be asked for one after the other, as unique_identifiers.0, .1, ..: the
+   line is then read once in all, and not once for each.
+
    Both, and kmip_pem, stay until the next of the three and until kmip_close; so one of them may be
    a word of the next call. */
 const uint8_t *kmip_bytes(kmip_client *client, const char *path, size_t *length);
 const char *kmip_text(kmip_client *client, const char *path, size_t *length);
+
+/* How many items the list at a path of the last answer has: a list of JSON, as unique_identifiers,
+   where any other value is one item; in a tree the items with this tag, as Attribute, of one
+   structure. 0 where the last call was not answered, or its answer has nothing there. */
+size_t kmip_count(kmip_client *client, const char *path);
+
+/* The items of such a list, from the first to the last:
+
+       kmip_list *found = kmip_list_new(client, "unique_identifiers");
+       while (kmip_list_next(found))
+           kmip_call(client, "activate", kmip_list_text(found, NULL, NULL), NULL);
+       kmip_list_free(found);
+
+   It is a copy: other calls may be made meanwhile, and the client may be closed. The time that it
+   takes to go through it grows as the list does. It is for one thread at a time. */
+typedef struct kmip_list kmip_list;
+
+/* The list at a path of the last answer, before its first item; without items where the answer has
+   nothing there. A null pointer where the last call was not answered, `path` is null, or memory ran
+   out. */
+kmip_list *kmip_list_new(kmip_client *client, const char *path);
+
+/* Goes to the next item. False where there is none, and of a null list. */
+bool kmip_list_next(kmip_list *list);
+
+/* A value of the item at hand, as kmip_bytes and kmip_text have one of an answer: at a path below
+   it, as name or AttributeName, or the item itself where the path is null. A null pointer also
+   where there is no item at hand. It stays until the next of these two of this list, and until
+   kmip_list_free. */
+const uint8_t *kmip_list_bytes(kmip_list *list, const char *path, size_t *length);
+const char *kmip_list_text(kmip_list *list, const char *path, size_t *length);
+
+/* Frees it, and overwrites it first. A null pointer is fine. */
+void kmip_list_free(kmip_list *list);
 
 /* The key or the certificate of the last answer, which was one to `get`, as PEM: a public key in
    PKCS#1 or X.509, a private key in PKCS#1, PKCS#8 or ECPrivateKey, a key of RSA or of a curve whose

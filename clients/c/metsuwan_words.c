@@ -17,21 +17,22 @@ static kmip_words room_for_words(const char *call, size_t count) {
     return made;
 }
 
+/* A null array is one word that is null. */
 kmip_words kmip_words_of_array(const char *call, const kmip_word *words, size_t count) {
     size_t taken = 0;
-    while (taken < count && words[taken].bytes)
+    while (words && taken < count && words[taken].bytes)
         taken++;
     if (taken < count) taken++; /* the null one, which kmip_make_call refuses */
     kmip_words made = room_for_words(call, taken);
-    if (made.at && taken > 0) memcpy(made.at + 1, words, taken * sizeof *words);
+    if (made.at && words && taken > 0) memcpy(made.at + 1, words, taken * sizeof *words);
     return made;
 }
 
 kmip_words kmip_words_of_texts(const char *call, const char *const *texts) {
     size_t count = 0;
-    while (texts[count])
+    while (texts && texts[count])
         count++;
-    kmip_words made = room_for_words(call, count);
+    kmip_words made = room_for_words(call, texts ? count : 1);
     for (size_t i = 0; made.at && i < count; i++)
         made.at[i + 1] = kmip_text_word(texts[i]);
     return made;
@@ -124,6 +125,7 @@ size_t kmip_write_character(const char *text, char into[8]) {
 
 void kmip_error_line(char *into, size_t room, const char *kind, const char *text) {
     static const char end[] = "\"}";
+    if (!into) room = 0;
     int front = snprintf(into, room, "{\"error\":\"%s\",\"text\":\"", kind);
     if (front < 0 || (size_t)front + sizeof end > room) {
         if (room > 0) *into = 0;

@@ -31,8 +31,8 @@ import records
 from connections import by_records, by_steps, connection, context_of, finish, listen, serve_each
 from registry import (ADD_ATTRIBUTE, CREATE_KEY_PAIR, DELETE_ATTRIBUTE, FAKES, GET, MODIFY_ATTRIBUTE, PLAIN, QUERY,
                       RNG_RETRIEVE, SIGN, fake, own_ids, plain)
-from ttlv import (FAILED, PENDING, SUCCESS, UNDONE, batch_item, date, enumeration, header, id_of, identified, identifier, item,
-                  items_of, nested, octets, operation_of, response, structure, text, value_of)
+from ttlv import (FAILED, PENDING, SUCCESS, UNDONE, batch_item, date, enumeration, header, id_of, identified, identifier,
+                  integer, item, items_of, nested, octets, operation_of, response, structure, text, value_of)
 
 for name in 'objects', 'curves', 'ciphers':      # fakes of their own
     importlib.import_module(name)
@@ -206,6 +206,23 @@ def earlier_batch(wire, request):
     if not hasattr(wire, 'earlier'):
         wire.earlier = Kept(batches, request).sent
     wire.sendall(wire.earlier)
+
+
+# What is no response to a batch, by the name of the first object.
+ODD_BATCHES = {
+    b'counts seven': lambda answer: answer.replace(integer(0x42000D, 2), integer(0x42000D, 7)),
+    b'a request': lambda answer: b'\x42\0\x78' + answer[3:],
+    b'two headers': lambda answer: structure(0x42007B, header(count=2), answer[8:]),
+    b'bytes': lambda answer: answer.replace(b'\x42\0\x0f\x01', b'\x42\0\x0f\x08'),
+    b'more': lambda answer: structure(0x42007B, answer[8:], structure(0x540001)),
+}
+
+
+@own_ids
+def odd_batches(wire, request):
+    """answers as `batches`, but where the first object is `counts seven`, `a request`, `two headers`, `bytes` or `more` so"""
+    answer = Kept(batches, request).sent
+    wire.sendall(ODD_BATCHES.get(value_of(request, '420094', 7), bytes)(answer))
 
 
 @own_ids
@@ -479,6 +496,16 @@ def endless(wire, request):
 def many_operations(wire, request):
     """answers query with 60,000 operations"""
     wire.sendall(response(QUERY, [b''.join(enumeration(0x42005C, 1 + i) for i in range(40)) * 1500]))
+
+
+@fake
+def many_objects(wire, request):
+    """answers locate with as many identifiers as the name says, and attributes with as many as the identifier does"""
+    name, asked = value_of(request, '420055', 7), value_of(request, '420094', 7)
+    if name:
+        return wire.sendall(response(operation_of(request), [identifier('object "%d"' % at) for at in range(int(name))]))
+    wire.sendall(response(operation_of(request), [identifier(asked), *(
+        structure(0x420008, text(0x42000A, 'x-%d' % at), text(0x42000B, '\u00e9 %d' % at)) for at in range(int(asked)))]))
 
 
 # Answers to another call, and answers that say other things.

@@ -121,6 +121,75 @@ static void errors(kmip_client *client) {
     check(kmip_call(client, "query", NULL) == KMIP_ANSWERED, "the connection is good");
 }
 
+/* This batch loses the connection, and says why. */
+static void loses(const kmip_settings *settings, const char *const *names, const char *text) {
+    char line[200];
+    kmip_client *client = opened(settings);
+    kmip_batch *batch = activating(client, KMIP_ON_ERROR_CONTINUE, names[0], names[1], names[2]);
+    check(kmip_batch_send(batch) == KMIP_LOST && kmip_was_sent(client), "a batch is lost");
+    snprintf(line, sizeof line, "{\"error\":\"InternalError\",\"text\":\"%s\"}", text);
+    check_text(kmip_line(client), line, "and why");
+    check(kmip_error_kind(client) == KMIP_KIND_OTHER_ANSWER, "which is a kind");
+    check(kmip_batch_answer(batch, 0) == KMIP_CALL_GRAMMAR, "no call of it has an answer");
+    check(kmip_call(client, "query", NULL) == KMIP_LOST, "the connection is closed");
+    kmip_batch_free(batch);
+    kmip_close(client);
+}
+
+/* What the server has undone is told as that, and the connection is good. */
+static void undone(kmip_client *client) {
+    kmip_batch *batch = activating(client, KMIP_ON_ERROR_UNDO, "undone", "failing", NULL);
+    check(kmip_batch_send(batch) == KMIP_ANSWERED, "a batch that is undone");
+    check(kmip_batch_answer(batch, 0) == KMIP_REFUSED &&
+              kmip_error_kind(client) == KMIP_KIND_UNDONE,
+          "a call that the server has undone");
+    check_text(kmip_line(client),
+               "{\"error\":\"Undone\",\"text\":\"the server has undone this call of the batch\"}",
+               "said so");
+    check(kmip_batch_answer(batch, 1) == KMIP_REFUSED &&
+              kmip_error_kind(client) == KMIP_KIND_ITEM_NOT_FOUND,
+          "since another one failed");
+    kmip_batch_free(batch);
+    check(kmip_call(client, "query", NULL) == KMIP_ANSWERED, "the connection is good");
+}
+
+/* Calls are added without a connection; what is sent is not. */
+static void on_closed(const kmip_settings *settings) {
+    kmip_client *client = opened(settings);
+    kmip_batch *batch = activating(client, KMIP_ON_ERROR_STOP, "unknown", NULL, NULL);
+    check(kmip_batch_send(batch) == KMIP_LOST, "a batch that loses the connection");
+    check(kmip_call(client, "query", NULL) == KMIP_LOST, "which is closed");
+    check(kmip_batch_call(batch, "activate", "k", NULL) == KMIP_ANSWERED &&
+              kmip_batch_operation(batch, "Archive", "1.2", archive) == KMIP_ANSWERED &&
+              kmip_batch_count(batch) == 3,
+          "calls are added all the same");
+    check(kmip_batch_call(batch, "activat", "k", NULL) == KMIP_CALL_GRAMMAR,
+          "and those that are none are refused");
+    check(kmip_batch_send(batch) == KMIP_LOST && !kmip_was_sent(client) &&
+              kmip_error_kind(client) == KMIP_KIND_WRITE,
+          "nothing of it is sent");
+    kmip_batch_free(batch);
+    kmip_close(client);
+}
+
+/* What is no response to a batch loses the connection. */
+static void odd(const kmip_settings *settings) {
+    static const char not_one[] = "not a response message";
+    static const struct {
+        const char *name, *text;
+    } rows[] = {
+        {"counts seven", "the Batch Count is not that of the items of the response"},
+        {"a request", not_one},
+        {"two headers", not_one},
+        {"bytes", not_one},
+        {"more", not_one},
+    };
+    for (size_t i = 0; i < sizeof rows / sizeof *rows; i++) {
+        const char *const names[] = {rows[i].name, "b", NULL};
+        loses(settings, names, rows[i].text);
+    }
+}
+
 /* What is no batch. */
 static void refused(kmip_client *client) {
     static const char empty[] = PAYLOAD(ITEM("UniqueIdentifier", "TextString", ""));
@@ -157,21 +226,6 @@ static void refused(kmip_client *client) {
     check(kmip_batch_send(batch) == KMIP_ANSWERED && kmip_batch_answer(batch, 1) == KMIP_ANSWERED,
           "until it is");
     kmip_batch_free(batch);
-}
-
-/* This batch loses the connection, and says why. */
-static void loses(const kmip_settings *settings, const char *const *names, const char *text) {
-    char line[200];
-    kmip_client *client = opened(settings);
-    kmip_batch *batch = activating(client, KMIP_ON_ERROR_CONTINUE, names[0], names[1], names[2]);
-    check(kmip_batch_send(batch) == KMIP_LOST && kmip_was_sent(client), "a batch is lost");
-    snprintf(line, sizeof line, "{\"error\":\"InternalError\",\"text\":\"%s\"}", text);
-    check_text(kmip_line(client), line, "and why");
-    check(kmip_error_kind(client) == KMIP_KIND_OTHER_ANSWER, "which is a kind");
-    check(kmip_batch_answer(batch, 0) == KMIP_CALL_GRAMMAR, "no call of it has an answer");
-    check(kmip_call(client, "query", NULL) == KMIP_LOST, "the connection is closed");
-    kmip_batch_free(batch);
-    kmip_close(client);
 }
 
 static void other_items(const kmip_settings *settings) {
@@ -261,8 +315,10 @@ int main(int argc, char **argv) {
     if (strcmp(mode, "batches") == 0) {
         answers(client, &good, &keys);
         errors(client);
+        undone(client);
         refused(client);
         other_items(&settings);
+        on_closed(&settings);
         another_operation(client);
     }
     if (strcmp(mode, "earlier_batch") == 0) {
@@ -270,6 +326,7 @@ int main(int argc, char **argv) {
         earlier(&settings, true);
     }
     if (strcmp(mode, "no_batches") == 0) no_batches(client);
+    if (strcmp(mode, "odd_batches") == 0) odd(&settings);
     if (strcmp(mode, "others") == 0) others(client);
     kmip_close(client);
     return outcome();

@@ -4,7 +4,7 @@ look_for_sanitizers
 test_build batches "${sanitized[@]}"
 fake good && good=$port
 fake transparent && keys=$port
-for name in batches earlier_batch no_batches; do
+for name in batches earlier_batch no_batches odd_batches; do
     fake "$name"
     test_run batches "$name" "$good" "$keys"
 done
