@@ -103,6 +103,37 @@ void connections_end(provider *prov) {
     unlock_all();
 }
 
+/* Whether both are in one library context; none is in one with itself. */
+static bool is_beside(const provider *one, const provider *other) {
+    return one != other && one->get_libctx(one->core) == other->get_libctx(other->core);
+}
+
+static bool is_second(const provider *prov) {
+    return prov->is_unable && prov->unable_reason == REASON_SECOND;
+}
+
+bool connections_first(provider *prov) {
+    bool first = true;
+    lock_all();
+    for (const provider *other = all; first && other; other = other->next)
+        if (is_beside(prov, other) && !is_second(other))
+            first = provider_refuse(
+                prov, REASON_SECOND,
+                "%s is not asked, since %s is active before it: name all servers of one set of "
+                "objects in one section, as server = A,B",
+                prov->name, other->name);
+    unlock_all();
+    return first;
+}
+
+void connections_tell_others(const provider *prov) {
+    lock_all();
+    for (const provider *other = all; other; other = other->next)
+        if (is_beside(prov, other) && is_second(other))
+            RAISE(prov, REASON_SECOND, "%s", other->unable);
+    unlock_all();
+}
+
 static struct timespec deadline_of(const provider *prov) {
     struct timespec at = {0};
     (void)clock_gettime(CLOCK_MONOTONIC, &at);

@@ -9,6 +9,9 @@
 #include <openssl/evp.h>
 #include <stdatomic.h>
 
+/* The room of an error's text: OpenSSL leaves out the whole of one that does not fit. */
+#define MOST_ERROR 1024
+
 typedef struct provider provider;
 typedef struct connection connection;
 
@@ -25,13 +28,20 @@ typedef struct {
 struct provider {
     const OSSL_CORE_HANDLE *core;
     OSSL_FUNC_core_get_params_fn *get_params;
+    OSSL_FUNC_core_get_libctx_fn *get_libctx;
     OSSL_FUNC_core_new_error_fn *new_error;
     OSSL_FUNC_core_set_error_debug_fn *set_error_debug;
     OSSL_FUNC_core_vset_error_fn *vset_error;
     OSSL_FUNC_BIO_gets_fn *gets;
     /* A context of its own, without this provider: for the connections' TLS and for public keys. */
     OSSL_LIB_CTX *own;
+    const char *name; /* that of openssl.cnf or of the program, for texts */
     settings settings;
+    /* Why it has no key, where OpenSSL loaded it for openssl.cnf: then it keeps errors of loading to
+       itself, and each use is this error. */
+    bool is_unable;
+    int unable_reason;
+    char unable[MOST_ERROR];
     /* What follows belongs to connection.c. */
     connection *idle;
     unsigned in_use;
@@ -52,14 +62,24 @@ enum {
     REASON_PARAMETERS,
     REASON_SIGNATURE,
     REASON_NO_KEYS_MADE,
-    REASON_MEMORY
+    REASON_MEMORY,
+    REASON_SECOND
 };
 
-/* Raises an error on OpenSSL's queue, and is false. */
+/* Raises an error on OpenSSL's queue, and is false. A text that is too long ends by two dots; what a
+   terminal would take for more than a character is escaped. */
 __attribute__((format(printf, 5, 6))) bool provider_raise(const provider *prov, int reason,
                                                           const char *file, int line,
                                                           const char *format, ...);
 #define RAISE(prov, reason, ...) provider_raise(prov, reason, __FILE__, __LINE__, __VA_ARGS__)
+
+/* The same, for what is wrong while the provider is loaded. Where OpenSSL loads it for openssl.cnf,
+   it keeps the text, in place of raising the error. */
+__attribute__((format(printf, 3, 4))) bool provider_refuse(provider *prov, int reason,
+                                                           const char *format, ...);
+
+/* Whether it can be used; else the error of its loading is raised. */
+bool provider_is_able(const provider *prov);
 
 /* settings.c. Both for a provider whose settings are all zero, or read. */
 bool settings_read(provider *prov);
@@ -69,6 +89,12 @@ void settings_free(provider *prov);
 
 bool connections_start(provider *prov);
 void connections_end(provider *prov);
+
+/* Where the module stands in several sections of openssl.cnf, OpenSSL asks the first provider alone.
+   Whether this one is it, else it is refused; and, after an error of the first, an error that names
+   the others. */
+bool connections_first(provider *prov);
+void connections_tell_others(const provider *prov);
 
 /* One that no other thread has, or null with an error raised; nothing is opened yet. Waits where as
    many as may be are in use. */
