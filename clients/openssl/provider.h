@@ -2,7 +2,7 @@
    docs/OPENSSL.md says what it does. */
 #ifndef METSUWAN_PROVIDER_H
 #define METSUWAN_PROVIDER_H
-#include "metsuwan_tls.h"
+#include "metsuwan_internal.h"
 
 #include <openssl/core.h>
 #include <openssl/core_dispatch.h>
@@ -18,8 +18,10 @@ typedef struct connection connection;
 /* What openssl.cnf or the environment says; each text may be null, but those that are needed for a
    connection: server, certificate, key and authority. */
 typedef struct {
-    char *host, *port, *certificate, *key, *authority, *passphrase, *user, *password;
+    char *server, *order, *server_name; /* one or more, by the rules of kmip_settings */
+    char *certificate, *key, *authority, *passphrase, *user, *password;
     double seconds;       /* the most time of a connection's opening and of each call; 0: no end */
+    double max_age;       /* the most time that a connection is used; 0: no end */
     unsigned connections; /* the most that are open at once */
     bool salts_are_max;   /* how long the server makes the salts of PSS, which KMIP cannot ask */
 } settings;
@@ -42,6 +44,7 @@ struct provider {
     bool is_unable;
     int unable_reason;
     char unable[MOST_ERROR];
+    kmip_servers *servers; /* one list for all connections, which settings.c makes */
     /* What follows belongs to connection.c. */
     connection *idle;
     unsigned in_use;
@@ -101,8 +104,9 @@ void connections_tell_others(const provider *prov);
 connection *connection_take(provider *prov);
 void connection_give_back(connection *link);
 
-/* A call of kmip_call_array: the client whose answer it is, until the next call, or null with an
-   error raised. A connection that was lost before the request was sent is opened again, once. */
+/* A call of kmip_call_array, which changes nothing: the client whose answer it is, until the next
+   call, or null with an error raised. Where the connection was lost it is made again, once, or with
+   each other server. */
 kmip_client *connection_call(connection *link, const char *call, const kmip_word *words,
                              size_t count);
 

@@ -59,21 +59,30 @@ static bool copy_setting(const provider *prov, const char *name, char **into) {
     return *into || RAISE(prov, REASON_MEMORY, "the setting %s", name);
 }
 
-/* HOST, HOST:PORT or [ADDRESS]:PORT. */
-static bool read_server(provider *prov) {
-    const char *server = setting(prov, "server");
-    if (!server) return true;
-    bool bracketed = *server == '[';
-    const char *end = bracketed ? strchr(server, ']') : strchr(server, ':');
-    const char *host = server + bracketed;
-    size_t count = end ? (size_t)(end - host) : strlen(host);
-    const char *port = end ? end + bracketed : "";
-    if (!count || (bracketed && !end) || (*port && (*port != ':' || !port[1])) ||
-        (*port && strchr(port + 1, ':')))
-        return refuse(prov, "server", "is no HOST, HOST:PORT or [ADDRESS]:PORT", server);
-    prov->settings.host = OPENSSL_strndup(host, count);
-    prov->settings.port = OPENSSL_strdup(*port ? port + 1 : "5696");
-    return (prov->settings.host && prov->settings.port) || RAISE(prov, REASON_MEMORY, "the server");
+static bool read_order(provider *prov) {
+    const char *order = setting(prov, "order"), *name = setting(prov, "server_name");
+    if (order && strcmp(order, "first") != 0 && strcmp(order, "turns") != 0)
+        return refuse(prov, "order", "is neither first nor turns", order);
+    if (name && (*name == '.' || strlen(name) > 255))
+        return refuse(prov, "server_name", "is no name, and no address", name);
+    return copy_setting(prov, "order", &prov->settings.order) &&
+           copy_setting(prov, "server_name", &prov->settings.server_name);
+}
+
+/* The servers, by the client's own reader. */
+static bool read_servers(provider *prov) {
+    const char *wrong = NULL;
+    kmip_settings how = kmip_defaults();
+    if (!read_order(prov) || !copy_setting(prov, "server", &prov->settings.server)) return false;
+    if (!prov->settings.server) return true;
+    how.server = prov->settings.server;
+    how.order = prov->settings.order;
+    prov->servers = kmip_servers_of(&how, &wrong);
+    if (prov->servers) return true;
+    if (strcmp(wrong, KMIP_SERVERS_MEMORY) == 0) return RAISE(prov, REASON_MEMORY, "the servers");
+    char what[100];
+    snprintf(what, sizeof what, "is wrong: %s", wrong);
+    return refuse(prov, "server", what, how.server);
 }
 
 /* The first line of a file, which is to be its only one. */
@@ -123,6 +132,7 @@ static bool read_numbers(provider *prov) {
     double connections = 8;
     prov->settings.seconds = 30;
     if (!read_number(prov, "seconds", MOST_SECONDS, &prov->settings.seconds) ||
+        !read_number(prov, "max_age", MOST_SECONDS, &prov->settings.max_age) ||
         !read_number(prov, "connections", MOST_CONNECTIONS, &connections))
         return false;
     prov->settings.connections = (unsigned)connections;
@@ -140,7 +150,7 @@ static bool read_salt(provider *prov) {
 
 bool settings_read(provider *prov) {
     settings *set = &prov->settings;
-    return read_server(prov) && copy_setting(prov, "certificate", &set->certificate) &&
+    return read_servers(prov) && copy_setting(prov, "certificate", &set->certificate) &&
            copy_setting(prov, "key", &set->key) &&
            copy_setting(prov, "authority", &set->authority) &&
            copy_setting(prov, "passphrase", &set->passphrase) && read_credential(prov) &&
@@ -153,8 +163,12 @@ static void secret_free(char *text) {
 
 void settings_free(provider *prov) {
     settings *given = &prov->settings;
-    OPENSSL_free(given->host);
-    OPENSSL_free(given->port);
+    /* (a client that was abandoned in the child of a fork still counts) */
+    if (prov->servers) prov->servers->users = 1;
+    kmip_servers_leave(prov->servers);
+    OPENSSL_free(given->server);
+    OPENSSL_free(given->order);
+    OPENSSL_free(given->server_name);
     OPENSSL_free(given->certificate);
     OPENSSL_free(given->key);
     OPENSSL_free(given->authority);

@@ -33,12 +33,16 @@ wrong 'a password and a file of it' 'exclude each other' METSUWAN_USER=alice MET
 wrong 'no such file of a password' 'PASSWORD_FILE No such file or directory: /nowhere' METSUWAN_USER=a METSUWAN_PASSWORD_FILE=/nowhere
 wrong 'an empty one' 'is not one line' METSUWAN_USER=a "METSUWAN_PASSWORD_FILE=$work/empty"
 wrong 'one of two lines' 'is not one line' METSUWAN_USER=a "METSUWAN_PASSWORD_FILE=$work/lines"
-for server in localhost localhost:5696 127.0.0.1:1 '[::1]' '[::1]:5696'; do
+for server in localhost localhost:5696 127.0.0.1:1 '[::1]' '[::1]:5696' 'a.example:5696,b.example,[::1]:5697'; do
     right "the server $server" "METSUWAN_SERVER=$server"
 done
-for server in :5696 localhost: a:b:c '[::1' '[::1]x' '[]:1' ::1; do
-    wrong "the server $server" 'METSUWAN_SERVER is no HOST, HOST:PORT or' "METSUWAN_SERVER=$server"
+for server in :5696 localhost: a:b:c '[::1' '[::1]x' '[]:1' ::1 'a, b' a,,b a,A:5696 a:99999; do
+    wrong "the server $server" 'METSUWAN_SERVER is wrong: (server|port|host) .*' "METSUWAN_SERVER=$server"
 done
+right 'an order and a name' METSUWAN_ORDER=turns METSUWAN_SERVER_NAME=kms.example METSUWAN_MAX_AGE=60
+wrong 'an order that is none' 'METSUWAN_ORDER is neither first nor turns: last' METSUWAN_ORDER=last
+wrong 'a name that is none' 'METSUWAN_SERVER_NAME is no name, and no address: .example' METSUWAN_SERVER_NAME=.example
+wrong 'an age that is none' 'METSUWAN_MAX_AGE is no number from 0 to 86400: old' METSUWAN_MAX_AGE=old
 
 # What OpenSSL loads for openssl.cnf, whose errors of loading it keeps to itself: each use says what is wrong.
 by_file() { # WHAT REGEX TEXT LINE..: openssl.cnf with these lines of settings; a use fails with that line, which has the text
