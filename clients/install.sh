@@ -23,7 +23,7 @@
 #   --destdir D        all is put below this folder, as for a package
 #   --libdir L         P/lib where it is not given
 #   --modulesdir M     L/ossl-modules where it is not given; OpenSSL looks there where L is that of its own libraries, and
-#                      elsewhere by OPENSSL_MODULES
+#                      elsewhere by a line `module =` of openssl.cnf
 #   --built FOLDER     the folder that clients/build.sh made; `built` at the top of the repository where it is not given
 #   --help             prints this
 #

@@ -209,6 +209,11 @@ struct kmip_client {
     double begun;          /* .. and when it began */
 };
 
+/* kmip_connect with a list of servers that others use too, in the place of that of the settings; a
+   null pointer: their own. */
+HIDDEN int kmip_connect_sharing(const kmip_settings *settings, kmip_servers *servers,
+                                kmip_client **client, char *error, size_t room);
+
 /* Begins a call: KMIP_ANSWERED, or the status of what went wrong. At its end its words and texts are
    forgotten. */
 HIDDEN int kmip_begin(kmip_client *client, const char *operation);

@@ -139,10 +139,13 @@ static int open_first(kmip_client *client, const kmip_settings *settings) {
     return KMIP_LOST;
 }
 
-/* Opens a client with settings of this version. */
-static int connect_by(const kmip_settings *settings, kmip_client **into, char *error, size_t room) {
+/* Opens a client with settings of this version, and with servers that are shared, or null. */
+static int connect_by(const kmip_settings *settings, kmip_servers *shared, kmip_client **into,
+                      char *error, size_t room) {
     const char *wrong = wrong_setting(settings);
-    kmip_servers *servers = wrong ? NULL : kmip_servers_of(settings, &wrong);
+    kmip_servers *servers = wrong    ? NULL
+                            : shared ? kmip_servers_take(shared)
+                                     : kmip_servers_of(settings, &wrong);
     if (wrong && strcmp(wrong, KMIP_SERVERS_MEMORY) != 0) {
         kmip_error_line(error, room, "ConfigurationError", wrong);
         return KMIP_CALL_GRAMMAR;
@@ -173,7 +176,8 @@ static const char *wrong_opening(const kmip_settings *settings, kmip_client *con
                : "settings do not begin with kmip_defaults, or are of a newer version";
 }
 
-int kmip_connect(const kmip_settings *settings, kmip_client **client, char *error, size_t room) {
+int kmip_connect_sharing(const kmip_settings *settings, kmip_servers *servers, kmip_client **client,
+                         char *error, size_t room) {
     kmip_settings own;
     if (client) *client = NULL;
     const char *wrong = wrong_opening(settings, client, &own);
@@ -183,9 +187,13 @@ int kmip_connect(const kmip_settings *settings, kmip_client **client, char *erro
     }
     kmip_queue queue;
     kmip_queue_take(&queue);
-    int status = connect_by(&own, client, error, room);
+    int status = connect_by(&own, servers, client, error, room);
     kmip_queue_give_back(&queue);
     return status;
+}
+
+int kmip_connect(const kmip_settings *settings, kmip_client **client, char *error, size_t room) {
+    return kmip_connect_sharing(settings, NULL, client, error, room);
 }
 
 kmip_client *kmip_open(const kmip_settings *settings, char *error, size_t room) {

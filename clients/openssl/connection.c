@@ -41,13 +41,27 @@ static bool make_condition(void) {
     return !pthread_condattr_destroy(&how) && made;
 }
 
+/* While a process forks no other thread has a lock: neither this one nor that of a list of servers,
+   which is never held while this one is waited for. */
+static void before_fork(void) {
+    lock_all();
+    for (provider *prov = all; prov; prov = prov->next)
+        if (prov->servers) (void)pthread_mutex_lock(&prov->servers->lock);
+}
+
+static void after_fork(void) {
+    for (provider *prov = all; prov; prov = prov->next)
+        if (prov->servers) (void)pthread_mutex_unlock(&prov->servers->lock);
+    unlock_all();
+}
+
 /* In the child no thread has a connection or waits for one, whatever threads the parent has. */
 static void in_child(void) {
     atomic_fetch_add(&forks, 1);
     for (provider *prov = all; prov; prov = prov->next)
         prov->in_use = 0;
     prepared = make_condition();
-    unlock_all();
+    after_fork();
 }
 
 /* Ends a connection of this process. One of the parent's is given up without a byte on it. */
@@ -77,7 +91,7 @@ static void at_exit(void) {
 }
 
 static void prepare_process(void) {
-    prepared = make_condition() && !pthread_atfork(lock_all, unlock_all, in_child) &&
+    prepared = make_condition() && !pthread_atfork(before_fork, after_fork, in_child) &&
                OPENSSL_atexit(at_exit);
 }
 
@@ -100,6 +114,37 @@ void connections_end(provider *prov) {
     while (*at && *at != prov)
         at = &(*at)->next;
     if (*at) *at = prov->next;
+    unlock_all();
+}
+
+/* Whether both are in one library context; none is in one with itself. */
+static bool is_beside(const provider *one, const provider *other) {
+    return one != other && one->get_libctx(one->core) == other->get_libctx(other->core);
+}
+
+static bool is_second(const provider *prov) {
+    return prov->is_unable && prov->unable_reason == REASON_SECOND;
+}
+
+bool connections_first(provider *prov) {
+    bool first = true;
+    lock_all();
+    for (const provider *other = all; first && other; other = other->next)
+        if (is_beside(prov, other) && !is_second(other))
+            first = provider_refuse(
+                prov, REASON_SECOND,
+                "%s is not asked, since %s is active before it: name all servers of one set of "
+                "objects in one section, as server = A,B",
+                prov->name, other->name);
+    unlock_all();
+    return first;
+}
+
+void connections_tell_others(const provider *prov) {
+    lock_all();
+    for (const provider *other = all; other; other = other->next)
+        if (is_beside(prov, other) && is_second(other))
+            RAISE(prov, REASON_SECOND, "%s", other->unable);
     unlock_all();
 }
 
@@ -155,7 +200,7 @@ void connection_give_back(connection *link) {
 }
 
 static const char *missing(const settings *given) {
-    return !given->host          ? "server"
+    return !given->server        ? "server"
            : !given->certificate ? "certificate"
            : !given->key         ? "key"
            : !given->authority   ? "authority"
@@ -169,10 +214,13 @@ static bool connect_it(connection *link) {
         return RAISE(of, REASON_SETTINGS,
                      "%s is set neither in the section of openssl.cnf nor in the environment",
                      missing(given));
-    char error[300];
+    char error[2048];
     kmip_settings how = kmip_defaults();
-    how.host = given->host;
-    how.port = given->port;
+    how.server = given->server;
+    how.order = given->order;
+    how.server_name = given->server_name;
+    how.max_age = given->max_age;
+    how.reconnect = true;
     how.certificate = given->certificate;
     how.key = given->key;
     how.authority = given->authority;
@@ -181,36 +229,32 @@ static bool connect_it(connection *link) {
     how.password = given->password;
     how.seconds = given->seconds;
     how.library = of->own;
-    link->client = kmip_open(&how, error, sizeof error);
+    (void)kmip_connect_sharing(&how, of->servers, &link->client, error, sizeof error);
     link->process = atomic_load(&forks);
-    return link->client ||
-           RAISE(of, REASON_CONNECTION, "%s port %s: %s", given->host, given->port, error);
+    return link->client || RAISE(of, REASON_CONNECTION, "%s: %s", given->server, error);
 }
 
-/* Makes the call, on a connection that is opened for it where none is: the client where that was
-   answered. `again`: nothing of it was sent on a connection that had been open before. */
-static kmip_client *call_once(connection *link, const char *call, const kmip_word *words,
-                              size_t count, bool *again) {
-    const provider *of = link->provider;
-    bool old = link->client != NULL;
-    *again = false;
-    if (!old && !connect_it(link)) return NULL;
-    int status = kmip_call_array(link->client, call, words, count);
-    if (status == KMIP_ANSWERED) return link->client;
-    *again = status == KMIP_LOST && old && !kmip_was_sent(link->client);
-    if (status == KMIP_NO_MEMORY)
-        RAISE(of, REASON_MEMORY, "%s", call);
-    else if (!*again)
-        RAISE(of, status == KMIP_LOST ? REASON_CONNECTION : REASON_REFUSED, "%s: %s", call,
-              kmip_line(link->client));
-    if (status == KMIP_LOST || status == KMIP_NO_MEMORY) disconnect(link);
-    return NULL;
+/* Whether a connection is no longer one for a call: that of the parent, or one that was open when its
+   server failed last, and may fail as another did. */
+static bool is_spent(const connection *link) {
+    kmip_client *client = link->client;
+    return link->process != atomic_load(&forks) ||
+           kmip_servers_failed_since(client->servers, client->at, client->opened_at);
 }
 
 kmip_client *connection_call(connection *link, const char *call, const kmip_word *words,
                              size_t count) {
-    if (link->client && link->process != atomic_load(&forks)) disconnect(link);
-    bool again;
-    kmip_client *client = call_once(link, call, words, count, &again);
-    return client || !again ? client : call_once(link, call, words, count, &again);
+    const provider *of = link->provider;
+    if (link->client && is_spent(link)) disconnect(link);
+    if (!link->client && !connect_it(link)) return NULL;
+    int status = kmip_call_array(link->client, call, words, count);
+    if (status == KMIP_ANSWERED) return link->client;
+    if (status == KMIP_NO_MEMORY)
+        RAISE(of, REASON_MEMORY, "%s", call);
+    else
+        RAISE(of, status == KMIP_LOST ? REASON_CONNECTION : REASON_REFUSED, "%s: %s", call,
+              kmip_line(link->client));
+    /* (the next one is opened with files that may be others by then) */
+    if (status == KMIP_LOST || status == KMIP_NO_MEMORY) disconnect(link);
+    return NULL;
 }

@@ -293,14 +293,15 @@ static bool take_object(provider *prov, connection *by, const uri *from, const c
 
 bool find(provider *prov, const uri *from, int wanted, object *into) {
     memset(into, 0, sizeof *into);
-    connection *by = connection_take(prov);
-    if (!by) return false;
-    char *id = object_id(prov, by, from, wanted);
+    connection *by = provider_is_able(prov) ? connection_take(prov) : NULL;
+    char *id = by ? object_id(prov, by, from, wanted) : NULL;
     bool done = id && take_object(prov, by, from, id, wanted, into);
-    connection_give_back(by);
+    if (by) connection_give_back(by);
     OPENSSL_free(id);
-    if (!done) object_free(into);
-    return done;
+    if (done) return true;
+    object_free(into);
+    connections_tell_others(prov);
+    return false;
 }
 
 void object_free(object *one) {

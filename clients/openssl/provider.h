@@ -2,12 +2,15 @@
    docs/OPENSSL.md says what it does. */
 #ifndef METSUWAN_PROVIDER_H
 #define METSUWAN_PROVIDER_H
-#include "metsuwan_tls.h"
+#include "metsuwan_internal.h"
 
 #include <openssl/core.h>
 #include <openssl/core_dispatch.h>
 #include <openssl/evp.h>
 #include <stdatomic.h>
+
+/* The room of an error's text: OpenSSL leaves out the whole of one that does not fit. */
+#define MOST_ERROR 1024
 
 typedef struct provider provider;
 typedef struct connection connection;
@@ -15,8 +18,10 @@ typedef struct connection connection;
 /* What openssl.cnf or the environment says; each text may be null, but those that are needed for a
    connection: server, certificate, key and authority. */
 typedef struct {
-    char *host, *port, *certificate, *key, *authority, *passphrase, *user, *password;
+    char *server, *order, *server_name; /* one or more, by the rules of kmip_settings */
+    char *certificate, *key, *authority, *passphrase, *user, *password;
     double seconds;       /* the most time of a connection's opening and of each call; 0: no end */
+    double max_age;       /* the most time that a connection is used; 0: no end */
     unsigned connections; /* the most that are open at once */
     bool salts_are_max;   /* how long the server makes the salts of PSS, which KMIP cannot ask */
 } settings;
@@ -25,13 +30,21 @@ typedef struct {
 struct provider {
     const OSSL_CORE_HANDLE *core;
     OSSL_FUNC_core_get_params_fn *get_params;
+    OSSL_FUNC_core_get_libctx_fn *get_libctx;
     OSSL_FUNC_core_new_error_fn *new_error;
     OSSL_FUNC_core_set_error_debug_fn *set_error_debug;
     OSSL_FUNC_core_vset_error_fn *vset_error;
     OSSL_FUNC_BIO_gets_fn *gets;
     /* A context of its own, without this provider: for the connections' TLS and for public keys. */
     OSSL_LIB_CTX *own;
+    const char *name; /* that of openssl.cnf or of the program, for texts */
     settings settings;
+    /* Why it has no key, where OpenSSL loaded it for openssl.cnf: then it keeps errors of loading to
+       itself, and each use is this error. */
+    bool is_unable;
+    int unable_reason;
+    char unable[MOST_ERROR];
+    kmip_servers *servers; /* one list for all connections, which settings.c makes */
     /* What follows belongs to connection.c. */
     connection *idle;
     unsigned in_use;
@@ -52,14 +65,24 @@ enum {
     REASON_PARAMETERS,
     REASON_SIGNATURE,
     REASON_NO_KEYS_MADE,
-    REASON_MEMORY
+    REASON_MEMORY,
+    REASON_SECOND
 };
 
-/* Raises an error on OpenSSL's queue, and is false. */
+/* Raises an error on OpenSSL's queue, and is false. A text that is too long ends by two dots; what a
+   terminal would take for more than a character is escaped. */
 __attribute__((format(printf, 5, 6))) bool provider_raise(const provider *prov, int reason,
                                                           const char *file, int line,
                                                           const char *format, ...);
 #define RAISE(prov, reason, ...) provider_raise(prov, reason, __FILE__, __LINE__, __VA_ARGS__)
+
+/* The same, for what is wrong while the provider is loaded. Where OpenSSL loads it for openssl.cnf,
+   it keeps the text, in place of raising the error. */
+__attribute__((format(printf, 3, 4))) bool provider_refuse(provider *prov, int reason,
+                                                           const char *format, ...);
+
+/* Whether it can be used; else the error of its loading is raised. */
+bool provider_is_able(const provider *prov);
 
 /* settings.c. Both for a provider whose settings are all zero, or read. */
 bool settings_read(provider *prov);
@@ -70,13 +93,20 @@ void settings_free(provider *prov);
 bool connections_start(provider *prov);
 void connections_end(provider *prov);
 
+/* Where the module stands in several sections of openssl.cnf, OpenSSL asks the first provider alone.
+   Whether this one is it, else it is refused; and, after an error of the first, an error that names
+   the others. */
+bool connections_first(provider *prov);
+void connections_tell_others(const provider *prov);
+
 /* One that no other thread has, or null with an error raised; nothing is opened yet. Waits where as
    many as may be are in use. */
 connection *connection_take(provider *prov);
 void connection_give_back(connection *link);
 
-/* A call of kmip_call_array: the client whose answer it is, until the next call, or null with an
-   error raised. A connection that was lost before the request was sent is opened again, once. */
+/* A call of kmip_call_array, which changes nothing: the client whose answer it is, until the next
+   call, or null with an error raised. Where the connection was lost it is made again, once, or with
+   each other server. */
 kmip_client *connection_call(connection *link, const char *call, const kmip_word *words,
                              size_t count);
 

@@ -109,17 +109,12 @@ calls_by_c() { # WHAT FOLDER-WITH-PKGCONFIG SYSROOT [VARIABLE=VALUE]
     says 'and is answered' '^\{"answer":\{"operations":'
 }
 
-# The lines of docs/OPENSSL.md by which OpenSSL finds the tarball's module and its own too.
+# openssl.cnf of docs/OPENSSL.md, with the tarball's module: OpenSSL finds it and its own too.
 beside_legacy() {
     if [[ ! -e $root/opt/it/lib/ossl-modules/metsuwan.so ]]; then return; fi
-    ln -s it "$root/opt/metsuwan-it"
-    {
-        echo 'cd /opt'
-        sed -n '/^modules=/,/^export/p' "$top/docs/OPENSSL.md"
-        echo "export METSUWAN_SERVER=localhost:$port METSUWAN_CERTIFICATE=/certs/client.pem METSUWAN_KEY=/certs/client.key"
-        echo 'METSUWAN_AUTHORITY=/certs/ca.pem openssl list -providers -provider default -provider legacy -provider metsuwan'
-    } >"$root/modules.sh"
-    does 'the tarball: a provider by OPENSSL_MODULES' bash /modules.sh
+    awk '/^END$/ { on = 0 } on; /^cat >openssl.cnf/ { on = 1 }' "$top/docs/OPENSSL.md" |
+        sed 's|^module = .*|module = /opt/it/lib/ossl-modules/metsuwan.so|' >"$root/modules.cnf"
+    does 'the tarball: a provider by openssl.cnf' env OPENSSL_CONF=/modules.cnf openssl list -providers -provider legacy
     says 'which does not hide legacy' '^  legacy$'
     says 'and is there' '^  metsuwan$'
 }

@@ -4,7 +4,11 @@
        program threads URI COUNT   eight threads sign, and a child after a fork beside them
        program lost URI PROCESS    signs; has relay.py end the connections, and signs again; has it
                                    cut within a request, and signs once more
-       program gone URI PROCESS    signs; has that process end, and signs again
+       program gone URI PROCESS    signs; has that process end, and does not sign again
+       program moves URI PROCESS   signs; has that process end, and signs again in eight threads
+       program rests URI           signs, and does so again half a second later
+       program refused URI         twice has no key: the server refuses the certificate, and then it
+                                   is left out
        program bundle FILE..       reads a private key from each of these PEM files
        program wrong FILE TEXT     does not, and an error with this text says why
 
@@ -251,13 +255,10 @@ static void lost(pid_t relay) {
     bool sent = kill(relay, SIGUSR1) == 0;
     rest();
     check("a connection that ended meanwhile is opened again", sent && signs("two"));
-    uint8_t made[ROOM];
-    size_t length = sizeof made;
     sent = kill(relay, SIGUSR2) == 0;
     rest();
-    check("one that ends after the request was sent is an error",
-          sent && !sign_by(key, "three", made, &length) && says("ResponseReadError"));
-    check("and the next signature has a new one", signs("four"));
+    check("so is one that ends after the request was sent", sent && signs("three"));
+    check("and the next signature is by that", signs("four"));
 }
 
 static void gone(pid_t server) {
@@ -268,6 +269,27 @@ static void gone(pid_t server) {
     size_t length = sizeof made;
     check("with no server there is none, and why",
           ended && !sign_by(key, "two", made, &length) && says("ConnectError"));
+}
+
+static void moves(pid_t server) {
+    check("a signature", signs("one"));
+    bool ended = kill(server, SIGKILL) == 0;
+    rest();
+    count = 2;
+    run_all();
+    check("with the next server eight threads sign", ended && bad == 0);
+}
+
+static void rests(void) {
+    check("a signature", signs("one"));
+    rest();
+    check("and another one", signs("two"));
+}
+
+static void refused(const char *uri) {
+    check("the server refuses the certificate, which is told",
+          !load(uri) && says("the server refused the certificate"));
+    check("and is left out", !load(uri) && says("left out for"));
 }
 
 static EVP_PKEY *read_key_file(const char *path) {
@@ -307,6 +329,10 @@ int main(int argc, char **argv) {
         wrong(argv[2], argv[3]);
         return failed;
     }
+    if (strcmp(what, "refused") == 0) {
+        refused(argv[2]);
+        return failed;
+    }
     if (argc < 3 || !prepare(argv[2])) return 1;
     long number = argc > 3 ? atol(argv[3]) : 0;
     count = number;
@@ -320,6 +346,10 @@ int main(int argc, char **argv) {
         threads();
     } else if (strcmp(what, "lost") == 0) {
         lost((pid_t)number);
+    } else if (strcmp(what, "moves") == 0) {
+        moves((pid_t)number);
+    } else if (strcmp(what, "rests") == 0) {
+        rests();
     } else {
         gone((pid_t)number);
     }

@@ -20,14 +20,14 @@ client_program() { # NAME: there is none
     return 1
 }
 
-# openssl.cnf for the server and the certificates that are set, with these lines of settings besides; what is called after it
-# has the provider.
+# openssl.cnf for the server and the certificates that are set, or for those in `servers`, with these lines of settings
+# besides; what is called after it has the provider.
 configure() { # LINE..
     export OPENSSL_CONF=$work/openssl.cnf
     {
         printf '%s\n' 'openssl_conf = init' '[init]' 'providers = providers' '[providers]' 'default = default_section' \
             'metsuwan = metsuwan_section' '[default_section]' 'activate = 1' '[metsuwan_section]' 'activate = 1' \
-            "module = ${provider:-$run/openssl/metsuwan.so}" "server = $host:$port" "certificate = $certificate" \
+            "module = ${provider:-$run/openssl/metsuwan.so}" "server = ${servers:-$host:$port}" "certificate = $certificate" \
             "key = $key" "authority = $authority" "seconds = $((30 * slack))"
         printf '%s\n' "$@" '[req]' 'distinguished_name = dn' 'x509_extensions = authority' 'prompt = no' '[dn]' \
             'CN = KMIP CA' '[authority]' 'basicConstraints = critical,CA:TRUE' \
@@ -70,24 +70,25 @@ write_uri() { # URI FILE
     } >"$2"
 }
 
-# From here on $port is that of a signer.py, which writes to $work/signer its operations.
+# From here on $port is that of a signer.py, which writes its operations to the file $signed, whose process is $signer.
 signer() { # [WRONG]
-    local log=$work/signer.${1-good}
-    rm -f "$log" # what one before it wrote is not to be read
+    local log
+    log=$(mktemp "$work/signer.XXXXXX")
+    signed=$log
     [[ -e $work/signer.key ]] || "${stock[@]}" genrsa -out "$work/signer.key" 2048 2>"$work/signer.err" || give_up 'no key'
-    "$python" -B "$own/signer.py" "$certs" "$work/signer.key" "$@" >"$log" 2>"$log.err" &
-    started+=($!)
-    disown $!
-    wait_for ready "$log" $! || give_up 'signer.py does not listen'
+    OPENSSL_CONF=/dev/null "$python" -B "$own/signer.py" "$certs" "$work/signer.key" "$@" >"$log" 2>"$log.err" &
+    signer=$!
+    started+=("$signer")
+    disown "$signer"
+    wait_for ready "$log" "$signer" || give_up 'signer.py does not listen'
     port=$(sed -n 's/^ready //p' "$log")
-    ln -sf "$log" "$work/signer"
 }
 
 # From here on $port is that of a relay.py to the port that was set, whose process is $relay.
 through_relay() {
     local log=$work/relay
     rm -f "$log"
-    "$python" -B "$own/relay.py" "$port" >"$log" 2>"$log.err" &
+    OPENSSL_CONF=/dev/null "$python" -B "$own/relay.py" "$port" >"$log" 2>"$log.err" &
     relay=$!
     started+=("$relay")
     disown "$relay"
@@ -119,4 +120,9 @@ run_test() { # NAME WORD..
 
 run_program() { # WORD..
     run_test program "$@"
+}
+
+# With a fork, in whose child the connections of the parent, and what they stand on, are left as they are and not freed.
+run_threads() { # URI COUNT
+    ASAN_OPTIONS=detect_leaks=0 run_program threads "$@"
 }

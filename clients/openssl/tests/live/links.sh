@@ -6,19 +6,19 @@ signer
 configure
 uri=kmip:id=priv
 run_program uses "$uri"
-run_program threads "$uri" 2
+run_threads "$uri" 2
 does 'the public key is found by its Link' openssl req -new -x509 -key "$uri" -days 30 -out ca.pem
 does 'openssl verifies the certificate' "${stock[@]}" verify -CAfile ca.pem -check_ss_sig ca.pem
 does 'PSS with a salt as long as the digest' openssl req -new -x509 -key "$uri" -sigopt rsa_padding_mode:pss \
     -sigopt rsa_pss_saltlen:digest -sha384 -out pss.pem
 does 'openssl verifies the certificate' "${stock[@]}" verify -CAfile pss.pem -check_ss_sig pss.pem
-! grep -q 'Get priv' "$work/signer"
+! grep -q 'Get priv' "$signed"
 verdict 'the private key was never asked for'
 signer private
 configure
 refuses 'a Link to a private key, and why' 'the object priv is a PrivateKey, and no PublicKey' \
     openssl req -new -x509 -key "$uri" -out never.pem
-! grep -q '^Get ' "$work/signer"
+! grep -q '^Get ' "$signed"
 verdict 'nothing was asked for'
 signer lies
 configure

@@ -9,9 +9,9 @@ make_key 'of a program' || give_up 'no key'
 uri="kmip:id=$private;public-id=$public"
 configure 'pss_salt = max'
 run_program uses "$uri"
-run_program threads "$uri" 2
+run_threads "$uri" 2
 configure 'pss_salt = max' 'connections = 2'
-run_program threads "$uri" 2
+run_threads "$uri" 2
 through_relay
 configure 'pss_salt = max'
 run_program lost "$uri" "$relay"

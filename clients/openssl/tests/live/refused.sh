@@ -85,6 +85,6 @@ refuses 'and a key is no certificate, and why' "the object $first is a PrivateKe
     openssl x509 -in "kmip:id=$first" -out never.pem
 
 port=1 configure
-try 'no server, and why' 'localhost port 1: .*Connection refused' "kmip:id=$first;public-id=$first_public"
+try 'no server, and why' 'localhost:1: .*Connection refused' "kmip:id=$first;public-id=$first_public"
 authority=$certs/other/ca.pem configure
 try 'a server of another authority, and why' 'self-signed certificate in certificate chain' "kmip:id=$first;public-id=$first_public"

@@ -8,6 +8,7 @@ KEY is an RSA key in a PEM file. WRONG is one of
     signature    the last byte of each signature is another
     private      the Link is to the private key itself
     lies         whatever object is got is the private key, though Object Type says otherwise
+    hangs        to Sign it says nothing
 It writes `ready PORT` when it listens, and then the name of the operation of each request.
 """
 import functools
@@ -17,6 +18,7 @@ import ssl
 import subprocess
 import sys
 import threading
+import time
 
 TOP = os.path.realpath(os.path.join(os.path.dirname(__file__), *4 * ['..']))
 sys.path.insert(0, os.path.join(TOP, 'tools', 'live'))
@@ -84,6 +86,8 @@ def signed(request):
 def answer(operation, request):
     name = (value_of(request, '420094', 7) or b'').decode()
     print(NAMES.get(operation, operation), name, flush=True)
+    if operation == SIGN and wrong == 'hangs':
+        time.sleep(1 << 30)
     if operation == LOCATE:
         return response(operation, [])
     if name not in ('priv', 'pub'):
