@@ -97,7 +97,7 @@ def _server_of(text: str) -> Server:
         raise ValueError('server has an empty place')
     if len(text) > 300:
         raise ValueError('server has a server that is too long')
-    if ' ' in text:
+    if any(sign.isspace() or sign == '\0' for sign in text):
         raise ValueError('server has a space')
     host, has_port, port = text.partition(':')
     if text.startswith('['):
@@ -141,7 +141,7 @@ def servers_of(host: Optional[str], port: Optional[Port],
         if len(made) == MOST:
             raise ValueError('server has more than 16')
         made.append(_server_of(text))
-        if made[-1].text in [it.text for it in made[:-1]]:
+        if made[-1].text.lower() in [it.text.lower() for it in made[:-1]]:
             raise ValueError('server has one twice')
     if not made:
         raise ValueError('server has an empty place')

@@ -2,7 +2,6 @@
 from __future__ import annotations
 
 import contextlib
-import fcntl
 import os
 import re
 import socket
@@ -12,8 +11,9 @@ import time
 from typing import Any, Callable, Iterator, List, Optional, Tuple, TypeVar, Union
 
 from .errors import ConnectError
-from .known import check_server, refusal_of
-from .processes import keep, this_process
+from .known import CertificateRefused, check_server, refusal_of
+from .processes import this_process
+from .race import Race
 from .stop import STOP, Cancelled, Stop
 
 Passphrase = Union[str, bytes, None]
@@ -136,6 +136,8 @@ class Wire:
         self.since = time.monotonic()
         self._stop: Optional[Stop]
         self._goes_on: Callable[[], bool]
+        self._end: Optional[float]
+        self._seconds: Optional[float]
         self._came, self._goes = ssl.MemoryBIO(), ssl.MemoryBIO()
         # Whether a byte of an answer was read: then the server has taken the certificate.
         self._has_read = False
@@ -143,17 +145,44 @@ class Wire:
         if host.startswith('[') and host.endswith(']'):
             host = host[1:-1]
         with self._in_time():
-            self._plain = self._reach(host, port)
+            addresses = self._addresses(host, port)
+        with contextlib.closing(Race(addresses)) as race:
+            self._open(race, context, _name_of(name or host))
+
+    def _open(self, race: Race, context: ssl.SSLContext, name: str) -> None:
+        """Connects and shakes hands with the first address for which both come about; each has its
+        share of the time. A refused certificate ends it: the addresses are those of one server."""
+        whole = self._end, self._seconds
+        while True:
+            with self._in_time():
+                self._plain = race.next(self._left, None if self._stop is None else LOOKS)
+            if self._stop is not None:
+                self._stop.holds(self._plain)
+            if self._end is not None and race.left:
+                share = (self._end - time.monotonic()) / (race.left + 1)
+                self._end, self._seconds = time.monotonic() + share, share
             try:
-                self._plain.setsockopt(socket.IPPROTO_TCP, socket.TCP_NODELAY, 1)
-                self._tls = context.wrap_bio(self._came, self._goes,
-                                             server_hostname=_name_of(name or host))
-                self._in_steps(self._tls.do_handshake)
-                check_server(self._tls)
-            except BaseException:
+                with self._in_time():
+                    self._shake_hands(context, name)
+                self._end, self._seconds = whole
+                return
+            except BaseException as error:
                 self._send_rest()
                 self._plain.close()
-                raise
+                self._end, self._seconds = whole
+                is_last = isinstance(error, (CertificateRefused, Cancelled)) or self._is_late()
+                if is_last or not isinstance(error, OSError):
+                    raise
+                race.has_failed(error)
+                if not race.left:
+                    raise race.error()
+
+    def _shake_hands(self, context: ssl.SSLContext, name: str) -> None:
+        self._plain.setsockopt(socket.IPPROTO_TCP, socket.TCP_NODELAY, 1)
+        self._came, self._goes = ssl.MemoryBIO(), ssl.MemoryBIO()
+        self._tls = context.wrap_bio(self._came, self._goes, server_hostname=name)
+        self._in_steps(self._tls.do_handshake)
+        check_server(self._tls)
 
     def is_older(self, max_age: Optional[float]) -> bool:
         """Whether more seconds than this have passed since it was opened."""
@@ -179,8 +208,8 @@ class Wire:
         self.has_sent = False
         self._stop = STOP.get()
 
-    def _left(self, share: int = 1) -> Optional[float]:
-        """The seconds that are left, or a share of them."""
+    def _left(self) -> Optional[float]:
+        """The seconds that are left."""
         if self._stop is not None:
             self._stop.check()
         now = time.monotonic()
@@ -196,7 +225,7 @@ class Wire:
         left = self._end - now
         if left <= 0:
             raise TimeoutError
-        return left / share
+        return left
 
     @contextlib.contextmanager
     def _in_time(self) -> Iterator[None]:
@@ -243,35 +272,6 @@ class Wire:
             raise found[0]
         addresses: List[Any] = found[0]
         return addresses
-
-    @staticmethod
-    def _socket(family: int, kind: int, protocol: int) -> socket.socket:
-        """A socket that is none of the three standard streams. Where the program has closed one of
-        these, what it writes to the stream would go out on the connection, with no TLS."""
-        made = socket.socket(family, kind, protocol)
-        if made.fileno() > 2:
-            return made
-        with made:
-            moved = fcntl.fcntl(made, fcntl.F_DUPFD_CLOEXEC, 3)
-            return socket.socket(family, kind, protocol, fileno=moved)
-
-    def _reach(self, host: str, port: Port) -> socket.socket:
-        """A connection to the first address that is reached; each has its share of the time."""
-        addresses = self._addresses(host, port)
-        for at, (family, kind, protocol, _, address) in enumerate(addresses, 1):
-            plain = self._socket(family, kind, protocol)
-            keep(plain)
-            if self._stop is not None:
-                self._stop.holds(plain)
-            try:
-                plain.settimeout(self._left(len(addresses) - at + 1))
-                plain.connect(address)
-                return plain
-            except BaseException as error:
-                plain.close()
-                if at == len(addresses) or not isinstance(error, OSError):
-                    raise
-        raise OSError('the host has no address')
 
     def _flush(self) -> None:
         """Sends what TLS has written."""

@@ -47,7 +47,8 @@ class Lists(unittest.TestCase):
                 ([], no_place), ('a b', 'a space'), ('a, b', 'a space'), ('::1', no_form),
                 ('a:', no_form), ('a:1:2', no_form), ('[::1]5697', no_form), ('[::1]:', no_form),
                 ('[]:1', 'a bracket without an address'), ('[::1', 'a bracket without an address'),
-                ('a,a:5696', 'one twice'), ('a' * 301, 'a server that is too long'),
+                ('a,a:5696', 'one twice'), ('a,A:5696', 'one twice'), ('a\tb', 'a space'),
+                ('a\n', 'a space'), ('a' * 301, 'a server that is too long'),
                 (','.join('a%d' % at for at in range(17)), 'more than 16')]
         for server, wanted in rows:
             with self.subTest(server), self.assertRaisesRegex(ValueError, '^server has ' + wanted):

@@ -26,6 +26,7 @@ const RESULT_STATUS: u32 = 0x42007F;
 const ITEM_ID: u32 = 0x420093;
 /// A Result Status.
 const FAILED: u32 = 1;
+const PENDING: u32 = 2;
 const UNDONE: u32 = 3;
 
 /// What a server does after a call of a batch that failed.
@@ -387,6 +388,12 @@ impl<'a> Message<'a> {
         }
         item(self.tag, STRUCTURE, &made)
     }
+}
+
+/// Whether a response says of a call that it is pending.
+pub(crate) fn is_pending(response: &[u8]) -> bool {
+    let Ok(message) = Message::of(response) else { return false };
+    message.items().iter().any(|at| message.status(*at) == Some(PENDING))
 }
 
 /// Whether the response to a single call says that the server has undone it.

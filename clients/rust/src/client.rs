@@ -1,30 +1,26 @@
 //! A client over a stream.
 use crate::answer::Answer;
 use crate::batch::{self, Batch, Ids};
+use crate::carrier::{Carrier, Uses};
 use crate::error::{Error, Result};
 use crate::item::Item;
-use crate::library::{self, BadHead, NoRequest, Operation, Status};
-use crate::log::{self, Begun, Event, EventKind, Log};
+use crate::library::{self, NoRequest, Operation, Status};
+use crate::log::{Begun, Event};
 use crate::options::Given;
 use crate::process::Process;
-use crate::record::{self, Record};
+use crate::servers::{Server, Servers};
 use crate::word::{with_options, Word, Words};
 use std::fmt::{self, Debug, Formatter};
-use std::io::{self, ErrorKind, Read, Write};
-use std::sync::{Mutex, MutexGuard, PoisonError};
+use std::io::{self, Read, Write};
+use std::sync::{Arc, Mutex, MutexGuard, PoisonError};
 
 /// The most bytes of a response where no limit is given: 1 MiB.
 pub const DEFAULT_LIMIT: u32 = 1 << 20;
 
-/// The most room that one read is offered.
-const PIECE: usize = 65536;
-
-type BeforeCall<T> = Box<dyn FnMut(&mut T) -> io::Result<()> + Send>;
-type Reopen<T> = Box<dyn FnMut() -> Result<T> + Send>;
 type Random = fn(&mut [u8]) -> io::Result<()>;
 
 /// The calls that change nothing on the server: they may be made twice.
-const CHANGELESS: [&str; 30] = [
+const CHANGELESS: [&str; 32] = [
     "query",
     "discover",
     "locate",
@@ -40,6 +36,7 @@ const CHANGELESS: [&str; 30] = [
     "check",
     "attribute-list",
     "validate",
+    "rng",
     "Query",
     "DiscoverVersions",
     "Locate",
@@ -55,6 +52,7 @@ const CHANGELESS: [&str; 30] = [
     "Hash",
     "Check",
     "Validate",
+    "RNGRetrieve",
 ];
 
 /// A user and a password.
@@ -66,28 +64,21 @@ struct Credential {
 
 /// Makes a client. `Debug` shows no password.
 pub struct ClientBuilder<T> {
-    stream: T,
+    carrier: Carrier<T>,
     credential: Option<Credential>,
     limit: u32,
-    before_call: BeforeCall<T>,
-    reopen: Option<Reopen<T>>,
-    log: Log,
-    record: Option<Record>,
 }
 
 impl<T: Read + Write> ClientBuilder<T> {
     /// Over this stream, as an `SslStream` or a `StreamOwned` of rustls. The time of a call is that
     /// of the stream: see [`with_before_call`](Self::with_before_call).
     pub fn new(stream: T) -> Self {
-        ClientBuilder {
-            stream,
-            credential: None,
-            limit: DEFAULT_LIMIT,
-            before_call: Box::new(|_: &mut T| Ok(())),
-            reopen: None,
-            log: Log { listener: None, server: None },
-            record: None,
-        }
+        let servers = Arc::new(Servers::one(Server::nameless()));
+        ClientBuilder::of(Carrier::new(Some(stream), Uses::plain(), servers))
+    }
+
+    pub(crate) fn of(carrier: Carrier<T>) -> Self {
+        ClientBuilder { carrier, credential: None, limit: DEFAULT_LIMIT }
     }
 
     /// Requests carry this user and this password.
@@ -106,20 +97,24 @@ impl<T: Read + Write> ClientBuilder<T> {
     /// the connection is open. Where it gives an error, nothing is sent, and the call is a
     /// `RequestWriteError`. A pool of r2d2 has it called, too, when a client is taken.
     pub fn with_before_call(
-        self,
-        before_call: impl FnMut(&mut T) -> io::Result<()> + Send + 'static,
+        mut self,
+        mut before_call: impl FnMut(&mut T) -> io::Result<()> + Send + 'static,
     ) -> Self {
-        ClientBuilder { before_call: Box::new(before_call), ..self }
+        self.carrier.uses.begin = Box::new(move |stream, _| before_call(stream));
+        self
     }
 
     /// A stream that is lost is opened again by this for the next call, with the error of that call
     /// where it is not. A call itself is made again, once, where nothing of it was sent, or where it
     /// changes nothing, and not where its time was over: `query`, `discover`, `locate`, `get`,
     /// `attributes`, `attribute-list`, `sign`, `encrypt`, `decrypt`, `mac`, `mac-verify`, `verify`,
-    /// `hash`, `check` and `validate`, and of the operations `Encrypt` and the like.
-    /// [`with_log`](Self::with_log) is told of it.
-    pub fn with_reconnect(self, reopen: impl FnMut() -> Result<T> + Send + 'static) -> Self {
-        ClientBuilder { reopen: Some(Box::new(reopen)), ..self }
+    /// `hash`, `check`, `validate` and `rng`, and of the operations `Encrypt` and the like.
+    /// [`with_log`](Self::with_log) is told of it. Under KMIP's Usage Limits a `sign`, `encrypt`,
+    /// `decrypt` or `mac` that is made again may count twice. With this, a client of several servers
+    /// has the one at hand alone.
+    pub fn with_reconnect(mut self, reopen: impl FnMut() -> Result<T> + Send + 'static) -> Self {
+        self.carrier.reopens_by(reopen);
+        self
     }
 
     /// This is told of each call that has ended, and of a connection that is opened again. It is
@@ -131,8 +126,9 @@ impl<T: Read + Write> ClientBuilder<T> {
     /// skeleton of a response that is no answer: no value, no identifier, and nothing that the server
     /// said. The level is `DEBUG` where the call is answered, `WARN` where it is not and where it is
     /// made again, and `INFO` where the connection is opened again.
-    pub fn with_log(self, listener: impl FnMut(&Event<'_>) + Send + 'static) -> Self {
-        ClientBuilder { log: Log { listener: Some(Box::new(listener)), ..self.log }, ..self }
+    pub fn with_log(mut self, listener: impl FnMut(&Event<'_>) + Send + 'static) -> Self {
+        self.carrier.log.set(Box::new(listener));
+        self
     }
 
     /// This is told of each exchange whose whole response came, also of an operation and of a batch,
@@ -140,23 +136,18 @@ impl<T: Read + Write> ClientBuilder<T> {
     /// which `kmip_run replay` answers again; or, where it has no such call, `message REQUEST
     /// RESPONSE`. Keys stand in it where they were sent or given. It is called within a call of the
     /// client, which it may not use; what it cannot write is its own to tell.
-    pub fn with_record(self, listener: impl FnMut(&str) + Send + 'static) -> Self {
-        ClientBuilder { record: Some(Box::new(listener)), ..self }
-    }
-
-    /// The server, for the log.
-    #[cfg(feature = "openssl")]
-    pub(crate) fn with_server(self, server: String) -> Self {
-        ClientBuilder { log: Log { server: Some(server), ..self.log }, ..self }
+    pub fn with_record(mut self, listener: impl FnMut(&str) + Send + 'static) -> Self {
+        self.carrier.record = Some(Box::new(listener));
+        self
     }
 
     /// The client.
     pub fn build(self) -> Client<T> {
-        let ClientBuilder { stream, credential, limit, before_call, reopen, log, record } = self;
-        let stream = Some(stream);
-        let wire = Wire { stream, is_busy: false, before_call, reopen, log, record };
-        let process = Process::this();
-        Client { wire: Mutex::new(wire), process, credential, limit, random: library::random }
+        let ClientBuilder { mut carrier, credential, limit } = self;
+        carrier.log.tell_untold();
+        let (process, servers) = (Process::this(), Arc::clone(carrier.servers()));
+        let carrier = Mutex::new(carrier);
+        Client { carrier, servers, process, credential, limit, random: library::random }
     }
 }
 
@@ -184,25 +175,14 @@ impl<T> Debug for ClientBuilder<T> {
 /// It is of the process that made it: in the child of a fork each call is a `RequestWriteError`, and
 /// where the stream is one of this crate, its end ends nothing of the parent's.
 pub struct Client<T> {
-    wire: Mutex<Wire<T>>,
+    carrier: Mutex<Carrier<T>>,
+    servers: Arc<Servers>,
     /// The process whose connection it is.
     process: Process,
     credential: Option<Credential>,
     limit: u32,
     /// What makes the Unique Batch Item IDs of operations and batches.
     random: Random,
-}
-
-/// A stream, and what goes with it.
-struct Wire<T> {
-    /// None where a call lost it.
-    stream: Option<T>,
-    /// Whether a call is made on it, or has panicked.
-    is_busy: bool,
-    before_call: BeforeCall<T>,
-    reopen: Option<Reopen<T>>,
-    log: Log,
-    record: Option<Record>,
 }
 
 /// Options of a call by their names, each with its value, which for `prehashed` is empty.
@@ -305,8 +285,8 @@ impl<T: Read + Write> Client<T> {
         if !self.is_own() {
             return None;
         }
-        let wire = self.wire.into_inner().unwrap_or_else(PoisonError::into_inner);
-        wire.stream.filter(|_| !wire.is_busy)
+        let carrier = self.carrier.into_inner().unwrap_or_else(PoisonError::into_inner);
+        carrier.stream.filter(|_| !carrier.is_busy)
     }
 
     fn call_words(&self, words: &Words) -> Result<Answer> {
@@ -314,17 +294,18 @@ impl<T: Read + Write> Client<T> {
     }
 
     fn make(&self, asked: Asked<'_>) -> Result<Answer> {
-        let mut wire = self.own_wire()?;
-        wire.ends_by(|wire| {
+        let mut carrier = self.own_carrier()?;
+        carrier.ends_by(|carrier| {
             let mut item_id = [0; 8];
             let (plain, asked) = (asked, asked.identified(&mut item_id, self.random)?);
             let request = asked.request(self.credential())?;
             let call = Begun::begin(asked.name());
-            let response = wire.response_again(call, &request, self.limit, asked.is_changeless());
+            let response =
+                carrier.response_again(call, &request, self.limit, asked.is_changeless());
             let read = response.as_ref().map_or(0, Vec::len);
-            let response = wire.recorded(response, || plain.request(None));
+            let response = carrier.recorded(response, || plain.request(None));
             let answer = response.and_then(|response| asked.read(response));
-            wire.tell_end(call, asked.name(), answer.as_ref().err(), (request.len(), read));
+            carrier.tell_end(call, asked.name(), answer.as_ref().err(), (request.len(), read));
             answer
         })
     }
@@ -337,8 +318,8 @@ impl<T: Read + Write> Client<T> {
         message_of: impl Fn(&[Vec<u8>], Ids) -> Result<Vec<u8>>,
         responses_of: impl FnOnce(&[u8], Ids) -> Result<Vec<Option<Vec<u8>>>>,
     ) -> Result<Vec<Result<Answer>>> {
-        let mut wire = self.own_wire()?;
-        wire.ends_by(|wire| {
+        let mut carrier = self.own_carrier()?;
+        carrier.ends_by(|carrier| {
             let mut first_id = [0; 8];
             (self.random)(&mut first_id).map_err(Error::no_random)?;
             let ids = Ids::new(first_id);
@@ -349,15 +330,15 @@ impl<T: Read + Write> Client<T> {
             let request = message(self.credential())?;
             let call = Begun::begin("batch");
             let is_changeless = calls.iter().all(Asked::is_changeless);
-            let response = wire.response_again(call, &request, self.limit, is_changeless);
+            let response = carrier.response_again(call, &request, self.limit, is_changeless);
             let read = response.as_ref().map_or(0, Vec::len);
-            let response = wire.recorded(response, || message(None));
+            let response = carrier.recorded(response, || message(None));
             let responses = response.and_then(|response| responses_of(&response, ids));
             let name = format!("a batch of {}", calls.len());
-            wire.tell_end(call, &name, responses.as_ref().err(), (request.len(), read));
+            carrier.tell_end(call, &name, responses.as_ref().err(), (request.len(), read));
             let answers: Vec<_> = calls.iter().zip(responses?).map(answer_of_batch).collect();
             if answers.iter().any(|answer| matches!(answer, Err(error) if error.is_lost())) {
-                wire.stream = None;
+                carrier.stream = None;
             }
             Ok(answers)
         })
@@ -373,7 +354,12 @@ impl<T: Read + Write> Client<T> {
 impl<T> Client<T> {
     /// Whether calls can be made: no call has lost the connection, or it may be opened again.
     pub fn is_open(&self) -> bool {
-        self.own_wire().is_ok_and(|wire| wire.is_open())
+        self.own_carrier().is_ok_and(|carrier| carrier.is_open())
+    }
+
+    /// Whether of several that are free the one is to be taken that was idle longest.
+    pub(crate) fn goes_by_turns(&self) -> bool {
+        self.servers.go_by_turns()
     }
 
     /// Whether this process made it, and not one that it was forked from.
@@ -384,142 +370,23 @@ impl<T> Client<T> {
     /// Makes no call, and sends nothing: looks at the stream as before a call. After an error it is
     /// dropped.
     pub(crate) fn look(&self) -> Result<()> {
-        self.own_wire()?.ends_by(Wire::look)
+        self.own_carrier()?.ends_by(Carrier::look)
     }
 
     /// The stream and what goes with it. In the child of a fork the lock may be that of a thread
     /// which is not there, so it is not taken. A call that panicked in the middle of a message has
     /// lost the connection, for all who come after it.
-    fn own_wire(&self) -> Result<MutexGuard<'_, Wire<T>>> {
+    fn own_carrier(&self) -> Result<MutexGuard<'_, Carrier<T>>> {
         if !self.is_own() {
             return Err(Error::not_own());
         }
-        let mut wire = self.wire.lock().unwrap_or_else(PoisonError::into_inner);
-        if wire.is_busy {
-            wire.stream = None;
-            wire.is_busy = false;
+        let mut carrier = self.carrier.lock().unwrap_or_else(PoisonError::into_inner);
+        if carrier.is_busy {
+            carrier.stream = None;
+            carrier.is_busy = false;
         }
-        Ok(wire)
+        Ok(carrier)
     }
-}
-
-impl<T> Wire<T> {
-    fn is_open(&self) -> bool {
-        self.stream.is_some() || self.reopen.is_some()
-    }
-
-    /// Makes a call. After an error that loses it, the stream is dropped.
-    fn ends_by<R>(&mut self, make: impl FnOnce(&mut Self) -> Result<R>) -> Result<R> {
-        if !self.is_open() {
-            return Err(Error::closed());
-        }
-        self.is_busy = true;
-        let made = make(self);
-        self.is_busy = false;
-        if matches!(&made, Err(error) if error.is_lost()) {
-            self.stream = None;
-        }
-        made
-    }
-
-    /// Looks at the stream as before a call, where there is one.
-    fn look(&mut self) -> Result<()> {
-        let Wire { stream: Some(stream), before_call, .. } = self else { return Ok(()) };
-        before_call(stream).map_err(Error::not_sent)
-    }
-
-    /// Tells the log that a call of this name has ended, which sent and read so many bytes.
-    fn tell_end(
-        &mut self,
-        call: Begun<'_>,
-        name: &str,
-        error: Option<&Error>,
-        (sent, read): (usize, usize),
-    ) {
-        let what = match error {
-            Some(error) if read == 0 => error.kind().to_string(),
-            _ => format!("status {}, {sent} bytes sent, {read} read", log::status_of(error)),
-        };
-        let text = format!("{name}: {what}, {}", call.took());
-        self.log.report(call, EventKind::Call, error, &text);
-    }
-}
-
-impl<T: Read + Write> Wire<T> {
-    /// The stream, which is opened again where it was lost.
-    fn ready(&mut self, call: Begun<'_>) -> Result<&mut T> {
-        if self.stream.is_none() {
-            let reopen = self.reopen.as_mut().ok_or_else(Error::closed)?;
-            self.stream = Some(reopen()?);
-            let text = "the connection was lost, and is opened again";
-            self.log.report(call, EventKind::Reopened, None, text);
-        }
-        self.stream.as_mut().ok_or_else(Error::closed)
-    }
-
-    /// The response to a request, which where that is wanted, and harmless, is sent once more on a
-    /// new stream.
-    fn response_again(
-        &mut self,
-        call: Begun<'_>,
-        request: &[u8],
-        limit: u32,
-        is_changeless: bool,
-    ) -> Result<Vec<u8>> {
-        let was_open = self.stream.is_some();
-        let mut is_sent = false;
-        let response = self.response(call, request, limit, &mut is_sent);
-        let error = match response {
-            // Where the stream is new, or what was sent may have been done, that is all.
-            Err(error)
-                if was_open
-                    && self.reopen.is_some()
-                    && (is_changeless || !is_sent)
-                    && has_failed_in_time(&error) =>
-            {
-                error
-            }
-            ended => return ended,
-        };
-        self.stream = None;
-        let text = format!("{}: the call is made again", error.details().text());
-        self.log.report(call, EventKind::Repeated, Some(&error), &text);
-        self.response(call, request, limit, &mut is_sent)
-    }
-
-    /// The response; the record is told of it, and of the request without its credential and its
-    /// Unique Batch Item ID.
-    fn recorded(
-        &mut self,
-        response: Result<Vec<u8>>,
-        request: impl FnOnce() -> Result<Vec<u8>>,
-    ) -> Result<Vec<u8>> {
-        let response = response?;
-        if let Some(listener) = &mut self.record {
-            listener(&record::line_of(&request()?, &response));
-        }
-        Ok(response)
-    }
-
-    fn response(
-        &mut self,
-        call: Begun<'_>,
-        request: &[u8],
-        limit: u32,
-        is_sent: &mut bool,
-    ) -> Result<Vec<u8>> {
-        self.ready(call)?;
-        let Some(stream) = &mut self.stream else { return Err(Error::closed()) };
-        (self.before_call)(stream).map_err(Error::not_sent)?;
-        *is_sent = true;
-        exchange(stream, request, limit)
-    }
-}
-
-/// Whether the stream has failed, and the time of the call is not over.
-fn has_failed_in_time(error: &Error) -> bool {
-    matches!(error, Error::RequestWriteError(_) | Error::ResponseReadError(_))
-        && !matches!(error.details().io_kind(), Some(ErrorKind::TimedOut | ErrorKind::WouldBlock))
 }
 
 /// The answer to a call of a batch, where the server has come to it.
@@ -611,51 +478,6 @@ impl Asked<'_> {
             Status::Memory => Err(Error::memory()),
         }
     }
-}
-
-/// The three steps that nothing checks: these bytes are sent, 8 are read, and then so many.
-fn exchange<T: Read + Write>(stream: &mut T, request: &[u8], limit: u32) -> Result<Vec<u8>> {
-    let sent = stream.write_all(request).and_then(|()| stream.flush());
-    sent.map_err(Error::write)?;
-    let mut head = [0; 8];
-    read(stream, &mut head)?;
-    let more = library::contents_len(&head, limit).map_err(|bad| match bad {
-        BadHead::TooLong => {
-            Error::bad_head(format!("the response is longer than the limit of {limit} bytes"))
-        }
-        BadHead::NotAStructure => Error::bad_head("not a structure"),
-    })?;
-    let mut response = head.to_vec();
-    let mut left = more;
-    while left > 0 {
-        let piece = left.min(PIECE);
-        let from = response.len();
-        if response.capacity() - from < piece {
-            // It grows as bytes come, whatever was announced, and no further than that.
-            let more = left.min(piece.max(from / 2));
-            response.try_reserve_exact(more).map_err(|_| Error::memory())?;
-        }
-        response.resize(from + piece, 0);
-        read(stream, &mut response[from..])?;
-        left -= piece;
-    }
-    Ok(response)
-}
-
-/// Reads as many bytes as there is room for.
-fn read(stream: &mut impl Read, into: &mut [u8]) -> Result<()> {
-    let mut done = 0;
-    while done < into.len() {
-        match stream.read(&mut into[done..]) {
-            Ok(0) => {
-                return Err(Error::read(io::Error::new(ErrorKind::UnexpectedEof, "end of input")))
-            }
-            Ok(count) => done += count,
-            Err(error) if error.kind() == ErrorKind::Interrupted => {}
-            Err(error) => return Err(Error::read(error)),
-        }
-    }
-    Ok(())
 }
 
 #[cfg(test)]

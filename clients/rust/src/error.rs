@@ -25,7 +25,7 @@ impl Display for CertificateRefused {
 impl std::error::Error for CertificateRefused {}
 
 /// Whether a stream's error is that.
-fn is_refusal(error: &io::Error) -> bool {
+pub(crate) fn is_refusal(error: &io::Error) -> bool {
     error.get_ref().is_some_and(|error| error.is::<CertificateRefused>())
 }
 
@@ -194,6 +194,12 @@ impl Error {
         Error::ConnectError(Details::of_stream(text, error, false))
     }
 
+    /// That of several servers, with the last error of one of them, where there is any.
+    pub(crate) fn no_server(text: impl Into<String>, last: Option<Error>) -> Error {
+        let source = last.and_then(|last| last.details().source.clone());
+        Error::ConnectError(Details { source, ..Details::before(text, true) })
+    }
+
     pub(crate) fn other_object(text: impl Into<String>) -> Error {
         Error::OtherObject(Details::new(text, true))
     }
@@ -232,11 +238,12 @@ impl Error {
         Error::RequestWriteError(Details::of_stream(text, error, false))
     }
 
-    pub(crate) fn write(error: io::Error) -> Error {
+    /// That of a request of which a byte was sent, or none.
+    pub(crate) fn write(error: io::Error, sent: bool) -> Error {
         if is_refusal(&error) {
             return Error::connect_of(error.to_string(), error);
         }
-        Error::RequestWriteError(Details::of_stream(error.to_string(), error, true))
+        Error::RequestWriteError(Details::of_stream(error.to_string(), error, sent))
     }
 
     pub(crate) fn read(error: io::Error) -> Error {
@@ -316,6 +323,58 @@ impl Error {
             Error::OutOfMemory(details) => ("OutOfMemory", details),
             Error::Unknown(details) => ("Unknown", details),
         }
+    }
+
+    fn details_mut(&mut self) -> &mut Details {
+        match self {
+            Error::GrammarError(details)
+            | Error::ConfigurationError(details)
+            | Error::MissingValue(details)
+            | Error::ConnectError(details)
+            | Error::SerializeError(details)
+            | Error::RequestWriteError(details)
+            | Error::ResponseReadError(details)
+            | Error::DeserializeError(details)
+            | Error::ServerError(details)
+            | Error::InternalError(details)
+            | Error::OtherObject(details)
+            | Error::ItemNotFound(details)
+            | Error::NotDone(details)
+            | Error::Undone(details)
+            | Error::OutOfMemory(details)
+            | Error::Unknown(details) => details,
+        }
+    }
+
+    /// The same after all tries of a call, with which a byte of it was sent, or none.
+    pub(crate) fn with_sent(mut self, sent: bool) -> Error {
+        self.details_mut().sent = sent;
+        self
+    }
+
+    /// The same in these words.
+    pub(crate) fn with_text(mut self, text: String) -> Error {
+        self.details_mut().text = text;
+        self
+    }
+
+    /// Why the stream failed, without what came of it for the call.
+    pub(crate) fn cause(&self) -> String {
+        let details = self.details();
+        details.source.as_ref().map_or_else(|| details.text.clone(), ToString::to_string)
+    }
+
+    /// Whether the server refused the client's certificate.
+    pub(crate) fn is_refusal(&self) -> bool {
+        self.details().io_error().is_some_and(is_refusal)
+    }
+
+    /// Whether the time of the stream was over.
+    pub(crate) fn is_late(&self) -> bool {
+        matches!(
+            self.details().io_kind(),
+            Some(io::ErrorKind::TimedOut | io::ErrorKind::WouldBlock)
+        )
     }
 
     /// The name of its variant.

@@ -31,7 +31,11 @@ mod answer;
 mod asynchronous;
 mod batch;
 mod calls;
+#[cfg_attr(not(feature = "openssl"), allow(dead_code))] // what connects over TLS uses all of it
+mod carrier;
 mod client;
+#[cfg(feature = "openssl")]
+mod connector;
 mod error;
 mod item;
 mod json;
@@ -48,7 +52,13 @@ mod payload;
 mod pem;
 mod pool;
 mod process;
+#[cfg(feature = "openssl")]
+mod race;
 mod record;
+#[cfg_attr(not(feature = "openssl"), allow(dead_code))]
+mod servers;
+#[cfg_attr(not(feature = "openssl"), allow(dead_code))]
+mod time;
 #[cfg(feature = "openssl")]
 mod tls;
 mod word;
@@ -58,6 +68,8 @@ pub use answer::Answer;
 pub use asynchronous::{AsyncClient, AsyncPool};
 pub use batch::{Batch, BatchErrorContinuationOption};
 pub use client::{Client, ClientBuilder, Options, DEFAULT_LIMIT};
+#[cfg(feature = "openssl")]
+pub use connector::{TlsConnector, DEFAULT_TIMEOUT};
 pub use error::{CertificateRefused, Details, Error, Result};
 pub use item::{Item, Value};
 pub use json::{Json, Text};
@@ -78,7 +90,9 @@ pub use payload::{
 };
 pub use pool::{Pool, PooledClient};
 #[cfg(feature = "openssl")]
-pub use tls::{TlsClient, TlsConnector, TlsStream, DEFAULT_TIMEOUT};
+pub use servers::Order;
+#[cfg(feature = "openssl")]
+pub use tls::{TlsClient, TlsStream};
 pub use word::Word;
 
 /// The examples of README.md.

@@ -11,8 +11,12 @@ pub enum EventKind {
     Call,
     /// The connection was lost, and the call is made again.
     Repeated,
-    /// The connection was lost, and is opened again for this call.
+    /// The connection was lost, or was old, and is opened again for this call.
     Reopened,
+    /// One of several servers has failed, and is left out for a while.
+    ServerOut,
+    /// It answers again.
+    ServerBack,
 }
 
 /// What [`with_log`](crate::ClientBuilder::with_log) is told: no value of a call, and no identifier.
@@ -23,7 +27,8 @@ pub enum EventKind {
 pub struct Event<'a> {
     /// What has happened.
     pub kind: EventKind,
-    /// The name of the call, as `sign`, or of the operation, as `Encrypt`; `batch` of a batch.
+    /// The name of the call, as `sign`, or of the operation, as `Encrypt`; `batch` of a batch, and
+    /// `connect` before the first call.
     pub operation: &'a str,
     /// The kind of the error where there is one, as `ItemNotFound`.
     pub error: Option<&'static str>,
@@ -38,14 +43,18 @@ impl Display for Event<'_> {
     }
 }
 
+/// The operation of what happens before the first call.
+pub(crate) const CONNECT: &str = "connect";
+
 /// What is told of each event.
 pub(crate) type Listener = Box<dyn FnMut(&Event<'_>) + Send>;
 
 /// Where a client tells of its calls.
+#[derive(Default)]
 pub(crate) struct Log {
-    pub(crate) listener: Option<Listener>,
-    /// The server, as `localhost:5696`, where it is known.
-    pub(crate) server: Option<String>,
+    listener: Option<Listener>,
+    /// What happened before there was one.
+    untold: Vec<Event<'static>>,
 }
 
 /// A call that is told of.
@@ -77,24 +86,39 @@ pub(crate) fn status_of(error: Option<&Error>) -> u8 {
 }
 
 impl Log {
+    pub(crate) fn set(&mut self, listener: Listener) {
+        self.listener = Some(listener);
+    }
+
+    /// Tells the listener what happened before it was known.
+    pub(crate) fn tell_untold(&mut self) {
+        let untold = std::mem::take(&mut self.untold);
+        if let Some(listener) = &mut self.listener {
+            untold.iter().for_each(listener);
+        }
+    }
+
+    /// Of this server, as `localhost:5696`, or of none that is known.
     pub(crate) fn report(
         &mut self,
         call: Begun<'_>,
         kind: EventKind,
         error: Option<&Error>,
+        server: &str,
         text: &str,
     ) {
         #[cfg(feature = "tracing")]
-        trace(call, kind, error, self.server.as_deref());
-        let Some(listener) = &mut self.listener else { return };
-        let server = self.server.as_deref().map_or(String::new(), |name| format!("{name}: "));
-        listener(&Event {
-            kind,
-            operation: call.operation,
-            error: error.map(Error::kind),
-            elapsed: call.begun.elapsed(),
-            text: server + text,
-        });
+        trace(call, kind, error, Some(server).filter(|name| !name.is_empty()));
+        let front = if server.is_empty() { String::new() } else { format!("{server}: ") };
+        let (operation, text) = (call.operation, front + text);
+        let (error, elapsed) = (error.map(Error::kind), call.begun.elapsed());
+        match &mut self.listener {
+            Some(listener) => listener(&Event { kind, operation, error, elapsed, text }),
+            None if operation == CONNECT => {
+                self.untold.push(Event { kind, operation: CONNECT, error, elapsed, text });
+            }
+            None => {}
+        }
     }
 }
 
@@ -125,5 +149,9 @@ fn trace(call: Begun<'_>, kind: EventKind, error: Option<&Error>, server: Option
             event!(warn, "the connection was lost, and the call is made again")
         }
         (EventKind::Reopened, _) => event!(info, "the connection was lost, and is opened again"),
+        (EventKind::ServerOut, _) => {
+            event!(warn, "the server has failed, and is left out for a while")
+        }
+        (EventKind::ServerBack, _) => event!(info, "the server answers again"),
     }
 }

@@ -2,6 +2,7 @@
 use crate::client::Client;
 use crate::error::{Error, Result};
 use crate::process::Process;
+use std::collections::VecDeque;
 use std::fmt::{self, Debug, Formatter};
 use std::io::{Read, Write};
 use std::ops::Deref;
@@ -55,7 +56,7 @@ impl<T> Places<T> {
     fn new(is_closed: bool) -> Self {
         Places {
             process: Process::this(),
-            state: Mutex::new(State { free: Vec::new(), used: 0 }),
+            state: Mutex::new(State { free: VecDeque::new(), used: 0 }),
             given_back: Condvar::new(),
             is_closed: AtomicBool::new(is_closed),
             of_child: OnceLock::new(),
@@ -66,9 +67,16 @@ impl<T> Places<T> {
         self.is_closed.load(SeqCst)
     }
 
-    /// The one of those that are free which was used last.
+    /// The one of those that are free which was used last; where servers go by turns, the one that
+    /// was idle longest.
     fn taken(&self) -> Option<(Client<T>, Instant)> {
-        self.state().free.pop()
+        let free = &mut self.state().free;
+        let by_turns = free.front().is_some_and(|(client, _)| client.goes_by_turns());
+        if by_turns {
+            free.pop_front()
+        } else {
+            free.pop_back()
+        }
     }
 
     fn state(&self) -> MutexGuard<'_, State<T>> {
@@ -78,7 +86,7 @@ impl<T> Places<T> {
 
 struct State<T> {
     /// Those that nobody uses, and when each was opened.
-    free: Vec<(Client<T>, Instant)>,
+    free: VecDeque<(Client<T>, Instant)>,
     /// How many are used.
     used: usize,
 }

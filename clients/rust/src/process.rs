@@ -1,6 +1,7 @@
 //! Which process this is: the child of a fork has a copy of each connection, and uses none.
 use std::os::raw::c_int;
 use std::sync::atomic::{AtomicBool, AtomicU32, Ordering};
+use std::sync::OnceLock;
 
 type Handler = Option<extern "C" fn()>;
 
@@ -37,5 +38,28 @@ impl Process {
     /// Whether it is the one that asks.
     pub(crate) fn is_this(self) -> bool {
         self == Process::this()
+    }
+}
+
+/// What each process has of its own. A child of a fork begins with another one, and touches nothing
+/// of its parent's, of which a thread that is not there may have the lock.
+pub(crate) struct OfProcess<S> {
+    process: Process,
+    own: S,
+    of_child: OnceLock<Box<OfProcess<S>>>,
+}
+
+impl<S> OfProcess<S> {
+    pub(crate) fn new(own: S) -> Self {
+        OfProcess { process: Process::this(), own, of_child: OnceLock::new() }
+    }
+
+    /// That of this process, which begins like this.
+    pub(crate) fn get(&self, begin: impl Fn() -> S) -> &S {
+        let mut found = self;
+        while !found.process.is_this() {
+            found = found.of_child.get_or_init(|| Box::new(OfProcess::new(begin())));
+        }
+        &found.own
     }
 }
