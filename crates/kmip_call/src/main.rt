@@ -185,30 +185,52 @@ fn has_closed_stream(rt: &HostRuntime) -> bool {
     }
 }
 
-/// Opens the file of records to add to it, and returns it with its length. It is locked until it is
-/// closed, so that no other program adds to it meanwhile. One that is not there is made for its
-/// owner alone. Where its last line lacks its line feed, that is added.
-fn open_record(rt: &HostRuntime, path: &str) -> io::Result<(File, u64)> {
+/// Opens the file of records to add to it. One that is not there is made for its owner alone.
+fn open_record(rt: &HostRuntime, path: &str) -> io::Result<File> {
     let mut options = OpenOptions::new();
     options.read(true).append(true).create(true).mode(0o600);
-    let mut file = options.open(rt, path)?;
-    file.lock()?;
-    let len = file.metadata()?.len();
-    if ends_a_line(&file, len) {
-        return Ok((file, len));
-    }
-    file.write_all(b"\n")?;
-    let len = file.metadata()?.len();
-    Ok((file, len))
+    options.open(rt, path)
 }
 
-/// Where a record was written in part, takes it off the end of the file again, so that the next one
-/// is a line of its own.
-fn take_back_part(file: &File, len: u64) -> io::Result<()> {
-    if ends_a_line(file, file.metadata()?.len()) {
-        return Ok(());
+/// Adds a line at the end of a file, behind a line feed where its last line lacks its own.
+fn add_line(mut file: &File, len: u64, line: &[u8]) -> io::Result<()> {
+    if !ends_a_line(file, len) {
+        file.write_all(b"\n")?;
     }
-    file.set_len(len)
+    file.write_all(line)
+}
+
+/// Adds a line at the end of a file. Where it cannot be written whole, what was written of it is
+/// taken off the end again.
+fn add_whole_line(file: &File, line: &[u8]) -> io::Result<()> {
+    let len = file.metadata()?.len();
+    let added = add_line(file, len, line);
+    if added.is_err() {
+        file.set_len(len)?;
+    }
+    added
+}
+
+/// The file of records. It is locked for each line that is added, which is the whole record of a
+/// call, and not before: programs that wait for their servers keep no other from the file.
+#[derive(Drop)]
+struct RecordFile {
+    file: File,
+}
+
+impl Write for RecordFile {
+    fn write(&mut self, line: &[u8]) -> io::Result<usize> {
+        self.file.lock()?;
+        let added = add_whole_line(&self.file, line);
+        let unlocked = self.file.unlock();
+        added?;
+        unlocked?;
+        Ok(line.len())
+    }
+
+    fn flush(&mut self) -> io::Result<()> {
+        Ok(())
+    }
 }
 
 /// Makes a call over standard input and output, with this sink for its record, and returns the
@@ -236,8 +258,8 @@ fn perform_over<F: Sink>(rt: &HostRuntime, order: &Order, kept: &mut F) -> Statu
     )
 }
 
-/// Makes a call, and returns the status. Where the file for the record cannot be opened or locked,
-/// that is `NoCall`, as for words that are no call, and nothing is sent.
+/// Makes a call, and returns the status. Where the file for the record cannot be opened, that is
+/// `NoCall`, as for words that are no call, and nothing is sent.
 fn perform(rt: &HostRuntime, order: &Order) -> Status {
     let Some(path) = &order.file else {
         return match MemorySink::new(rt.alloc(), &[]) {
@@ -245,13 +267,9 @@ fn perform(rt: &HostRuntime, order: &Order) -> Status {
             Err(_) => Status::OutOfMemory,
         };
     };
-    let Ok((file, len)) = open_record(rt, path.as_str()) else {
-        return refuse_with(rt, NO_FILE);
-    };
-    let status = perform_over(rt, order, &mut StdSink::new(&file));
-    match take_back_part(&file, len) {
-        Ok(()) => status,
-        Err(_) => Status::NotWritten,
+    match open_record(rt, path.as_str()) {
+        Ok(file) => perform_over(rt, order, &mut StdSink::new(RecordFile { file })),
+        Err(_) => refuse_with(rt, NO_FILE),
     }
 }
 

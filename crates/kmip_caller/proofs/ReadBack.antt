@@ -18,7 +18,7 @@ use Rattle.kmip_words.specs.Words.{parts_between, has_empty_part, words_of}
 use Rattle.kmip_words.specs.Values.{int_of, bytes_of, word_text}
 use Rattle.kmip_words.specs.Asked.{asked_in}
 use Rattle.kmip_words.specs.Refusals.{why_refused}
-use Rattle.kmip_words.specs.Calls.{with_response, call_of_one, call_of_two, call_of_three, call_of_words, call_from, call_of, call_in, locate_of, attributes_of, create_aes_of, plain_call, or_request, unless_refused, typed_call}
+use Rattle.kmip_words.specs.Calls.{with_response, call_of_one, call_of_two, call_of_three, recorded_of, call_from, call_of, call_in, locate_of, attributes_of, create_aes_of, plain_call, or_request, unless_refused, typed_call}
 use Rattle.kmip_words.specs.Exchange.{request_asked, or_empty}
 use Rattle.kmip_words.specs.declared.call.Call.{Call}
 use Rattle.kmip_words.specs.declared.call.Recorded.{Recorded}
@@ -102,7 +102,7 @@ words_back words last good it =
     (Some (parts_between 32 (with_spaces words ++ last))) some ∙ ap Some same
 
 by_count : (words : List (List ℕ)) (last : List ℕ)
-    → call_of_words (words ++ (last ∷ [])) ≡ with_response (call_in words) (bytes_of last)
+    → recorded_of (words ++ (last ∷ [])) ≡ with_response (call_in words) (bytes_of last)
 by_count [] last = refl
 by_count (a ∷ []) last = refl
 by_count (a ∷ b ∷ []) last = refl

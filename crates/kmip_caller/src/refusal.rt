@@ -26,8 +26,8 @@ use std::alloc::Global;
 /// What is said where `limit=N` has no number.
 pub const WRONG_LIMIT: &str = "limit= takes a number from 0 to 4294967295";
 
-/// What is said where the file of `record=FILE` cannot be opened or locked.
-pub const NO_FILE: &str = "the file of record= cannot be opened or locked";
+/// What is said where the file of `record=FILE` cannot be opened.
+pub const NO_FILE: &str = "the file of record= cannot be opened";
 
 /// What is said where a standard stream is closed.
 pub const CLOSED_STREAM: &str = "standard input, output or error is closed";

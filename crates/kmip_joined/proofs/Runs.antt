@@ -9,7 +9,8 @@ use Rattle.kmip_wire.specs.declared.memory.OutOfMemory.{OutOfMemory}
 use Rattle.kmip_words.specs.Exchange.{settings_of, Step}
 use Rattle.kmip_joined.specs.Lines.{line_call}
 use Rattle.kmip_joined.specs.World.{joined_step, world_of}
-use Rattle.kmip_joined.specs.Reports.{IsJoined, IsMade, IsMadeSo, IsShown, Runs, ReportsStep}
+use Rattle.kmip_joined.specs.Reports.{IsJoined, IsMade, IsShown, Runs, ReportsStep}
+use Rattle.kmip_joined.proofs.Made.{IsMadeSo}
 use Rattle.kmip_joined.proofs.Calls.{made_so}
 
 abbrev Clients : Type 0

@@ -16,9 +16,8 @@ use Rattle.kmip_server.specs.Link.{ServerLinkState, LinkFacts, IsOpen}
 use Rattle.kmip_server.specs.declared.answers.Answered.{Answered}
 use Rattle.kmip_server.specs.declared.answers.Answered.TheVariants as answered
 use Rattle.kmip_server.specs.declared.answers.CallAnswer.{CallAnswer}
-use Rattle.kmip_words.specs.Exchange.{settings_of as line_settings, Step, answer_line, call_text, done_in_style, is_error, pair_in_style, diagnostic_lines}
-use Rattle.kmip_joined.specs.Lines.{line_call}
-use Rattle.kmip_joined.specs.World.{World, Joined, joined_step, world_of}
+use Rattle.kmip_words.specs.Exchange.{Step, answer_line, call_text, done_in_style, is_error, pair_in_style, diagnostic_lines}
+use Rattle.kmip_joined.specs.World.{World, Joined}
 
 -- calls can go over the link, and its server's time stamp is 0
 pub record IsJoined (link : ServerLinkState PlainMemory) : Type 0 where
@@ -65,16 +64,6 @@ pub record ReportsStep (s : Step) (buffered : Bool) (report : CallAnswer) : Type
 abbrev pub ended_so : Result (Unit {0}) OutOfMemory → Result Ending OutOfMemory
 ended_so (Ok _) = Ok ended
 ended_so (Err error) = Err error
-
--- a call was made on a client, with this report
-pub record IsMadeSo (before after : ClientState (ServerLinkState PlainMemory)) (call : Call)
-    (report : CallAnswer) : Type 0 where
-  pub settings : line_settings after ≡ line_settings before
-  pub joined : IsJoined after.link
-  pub world : world_of after.link ≡ (joined_step (line_settings before) (line_call call)
-      (world_of before.link)).after
-  pub tells : ReportsStep (joined_step (line_settings before) (line_call call)
-      (world_of before.link)).step before.buffered report
 
 -- what a call did to the client and its server, and to the text
 pub record Runs (it : Joined) (after : World) (failed : Bool) (old new : List ℕ) : Type 0 where

@@ -40,7 +40,7 @@ use Rattle.kmip_request.specs.Message.{operation_of, minor_of, version_of, crede
 use Rattle.kmip_request.specs.Fits.{FitsCredential, FitsRequest}
 use Rattle.kmip_request.proofs.Messages.{bytes_are}
 use Rattle.kmip_request.proofs.Tables.{message_once, message_in_range, message_depth}
-use Rattle.kmip_request_read.specs.Matched.{under_operation, IsMatched}
+use Rattle.kmip_request_read.specs.Matched.{under_number, IsMatched}
 use Rattle.kmip_request_read.specs.Message.{message_of, IsClientMessage, IsCanonical}
 use Rattle.kmip_shape.proofs.Selected.{selected}
 
@@ -100,7 +100,7 @@ canonical_selected val root b p c =
 payload_selected : (payload : RequestPayload) (a : Option Authentication)
     → selected_in (request_message_val (message_of payload a))
     NoCase request_message no_outer REQUEST_MESSAGE
-    → selected_in (request_payload_val payload) NoCase request_payload (under_operation payload) REQUEST_PAYLOAD
+    → selected_in (request_payload_val payload) NoCase request_payload (under_number (operation_of payload)) REQUEST_PAYLOAD
 payload_selected payload a s = ((s.2).1).0.2.2.1
 
 has_tree : (o : Option Tree) (f : Tree → Tree) (b : List ℕ) → option_and_then bytes (option_map f o) ≡ Some b → IsSome o

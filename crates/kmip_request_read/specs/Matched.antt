@@ -16,9 +16,6 @@ use Rattle.kmip_request.specs.Values.{request_payload_val}
 abbrev pub under_number : Operation → OuterValue
 under_number operation = record { number = Some (operation_line operation).number; name = None }
 
-abbrev pub under_operation : RequestPayload → OuterValue
-under_operation payload = under_number (operation_of payload)
-
 -- A payload of an operation, as a value, is matched where it has a tree and each value in it is
 -- selected.
 --

@@ -113,7 +113,7 @@ pub record RunsCommand (command : Option Command) (before after : Streams) (stat
       IsOfGrammar command (source_left before.source) →
       (status ≡ Ended Answered) ⊎ ((status ≡ Ended Failed) ⊎ (status ≡ OutOfMemory))
 
--- What the program did with these words: its transcripts are `transcript words`.
+-- What the program did with these words: what it does for the command that they are.
 abbrev pub Runs : List (List ℕ) → Streams → Streams → Status → Type 0
 Runs words before after status = RunsCommand (command_of words) before after status
 

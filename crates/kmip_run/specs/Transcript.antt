@@ -12,7 +12,6 @@ use Rattle.kmip_run.specs.Auditing.{captured_in, AreStreams}
 use Rattle.kmip_words.specs.Calls.{call_of}
 use Rattle.kmip_joined.specs.Lines.{helper_call}
 use Rattle.kmip_joined.specs.World.{World, Joined, joined_step, nothing_yet}
-use Rattle.kmip_run.specs.Commands.{command_of}
 use Rattle.kmip_words.specs.Exchange.{Settings, Step, step, call_text}
 use Rattle.kmip_run.specs.Setup.{settings_for}
 use Rattle.kmip_run.specs.Making.{Counts, counts_after, made_settings, made_text}
@@ -154,10 +153,6 @@ script_transcript command script =
 abbrev pub command_transcript : Option Command → List ℕ → Transcript
 command_transcript None script = only_text (codes "! words\n") (Ended NotOfGrammar)
 command_transcript (Some command) script = script_transcript command script
-
--- what the program does with these words over this script
-abbrev pub transcript : List (List ℕ) → List ℕ → Transcript
-transcript words script = command_transcript (command_of words) script
 
 -- how many of the bytes left a command reads: all, but at most one more than a script may have; and
 -- none where it reads no script

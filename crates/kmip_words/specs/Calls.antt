@@ -79,18 +79,18 @@ with_response (Some call) (Some response) = Some (record { call = call; response
 with_response call response = None
 
 -- the call of these words, by how many there are; the last word is the response recorded for it
-abbrev pub call_of_words : List (List ℕ) → Option Recorded
-call_of_words (name ∷ response ∷ []) = with_response (call_of_one name) (bytes_of response)
-call_of_words (name ∷ first ∷ response ∷ []) =
+abbrev pub recorded_of : List (List ℕ) → Option Recorded
+recorded_of (name ∷ response ∷ []) = with_response (call_of_one name) (bytes_of response)
+recorded_of (name ∷ first ∷ response ∷ []) =
     with_response (call_of_two name first) (bytes_of response)
-call_of_words (name ∷ first ∷ second ∷ response ∷ []) =
+recorded_of (name ∷ first ∷ second ∷ response ∷ []) =
     with_response (call_of_three name first second) (bytes_of response)
-call_of_words (name ∷ first ∷ second ∷ third ∷ response ∷ []) =
+recorded_of (name ∷ first ∷ second ∷ third ∷ response ∷ []) =
     with_response (call_of_four name first second third) (bytes_of response)
-call_of_words words = None
+recorded_of words = None
 
 abbrev pub call_from : Option (List (List ℕ)) → Option Recorded
-call_from (Some words) = call_of_words words
+call_from (Some words) = recorded_of words
 call_from None = None
 
 -- the call of a line, where the line is of the grammar

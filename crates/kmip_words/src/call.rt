@@ -6,7 +6,7 @@ ghost use Rattle.kmip_words.specs.Calls.{typed_of_one, locate_of, attributes_of,
 ghost use Rattle.kmip_words.specs.Calls.{create_aes_of, typed_of_three, plain_call, typed_call};
 ghost use Rattle.kmip_words.specs.Calls.{rng_of, raw_of, key_call, call_of_one, call_of_two};
 ghost use Rattle.kmip_words.specs.Calls.{sign_of, rename_of, call_of_three, create_rsa_of};
-ghost use Rattle.kmip_words.specs.Calls.{call_of_four, with_response, call_of_words, call_of};
+ghost use Rattle.kmip_words.specs.Calls.{call_of_four, with_response, recorded_of, call_of};
 ghost use Rattle.kmip_words.specs.Calls.{call_in, call_alone};
 ghost use Rattle.kmip_request_words.specs.Asked.{asked_in};
 ghost use Rattle.kmip_words.specs.declared.call.Call.TheVariants.{Request, Raw};
@@ -256,9 +256,9 @@ fn with_response(
 
 /// The call of these words, the last of which is its response; `None` where they are not of the
 /// grammar.
-fn call_of_words(alloc: Global, words: &[&str]) -> Result<Option<Recorded>, OutOfMemory>
+fn recorded_of(alloc: Global, words: &[&str]) -> Result<Option<Recorded>, OutOfMemory>
     ensures { IfOk result
-        (λ recorded. recorded ≡ call_of_words (map (λ word. word.now) words.now)) }
+        (λ recorded. recorded ≡ recorded_of (map (λ word. word.now) words.now)) }
 {
     match words {
         [name, response] => with_response(alloc, call_of_one(name), response),
@@ -287,7 +287,7 @@ pub fn call_of(alloc: Global, line: &[u8]) -> Result<Option<Recorded>, OutOfMemo
         return Ok(None);
     };
     match words_of(alloc, line)? {
-        Some(words) => call_of_words(alloc, &words),
+        Some(words) => recorded_of(alloc, &words),
         None => Ok(None),
     }
 }
