@@ -44,7 +44,8 @@ class Answers(unittest.TestCase):
              [K, structure(0x420091, structure(0x420008, name))],
              {'unique_identifier': 'k', 'template_attribute': {
                  'attribute': {'attribute_name': 'sch\u00fcssel "%"'}}}),
-            (lambda kmip: kmip.call('archive', 'k'), 21, [], {}),
+            (lambda kmip: kmip.call('archive', 'k'), 21, [K], {'unique_identifier': 'k'}),
+            (lambda kmip: kmip.call('poll', b'\0\1'), 26, [], {}),
         ]
         for call, operation, payload, wanted in rows:
             with answered(operation, *payload) as (kmip, asked), self.subTest(operation):

@@ -10,6 +10,7 @@ from .servers import ID, answered, client_of
 
 K, X, Y = identifier('k'), octets(0x4200C2, b'x'), octets(0x4200C2, b'y')
 IV = octets(0x42003D, b'iv')
+ANOTHER = 'answer for another object'
 HOW: Dict[str, Any] = {'mode': 'CBC', 'padding': 'PKCS5', 'algorithm': 'AES'}
 HOW_ITEMS = structure(0x42002B, enumeration(0x420011, 1), enumeration(0x42005F, 3),
                       enumeration(0x420028, 3))
@@ -66,29 +67,34 @@ class Typed(unittest.TestCase):
             self.assertEqual(derived, 'k')
 
     def test_an_answer_about_another_object_loses_the_connection(self) -> None:
-        calls: List[Tuple[int, Callable[[Client], object]]] = [
-            (0x1F, lambda kmip: kmip.encrypt('other', b'x')),
-            (0x20, lambda kmip: kmip.decrypt('other', b'x')),
-            (0x23, lambda kmip: kmip.mac('other', b'x')),
-            (0x24, lambda kmip: kmip.mac_verify('other', b'x', b'm')),
-            (0x22, lambda kmip: kmip.verify('other', b'x', b's'))]
-        for operation, call in calls:
-            with answered(operation, K, Y) as (kmip, _), self.subTest(operation):
-                with self.assertRaises(OtherObject):
+        calls: List[Tuple[int, List[bytes], Callable[[Client], object], str]] = [
+            (0x1F, [K, Y], lambda kmip: kmip.encrypt('other', b'x'), ANOTHER),
+            (0x20, [K, Y], lambda kmip: kmip.decrypt('other', b'x'), ANOTHER),
+            (0x23, [K, Y], lambda kmip: kmip.mac('other', b'x'), ANOTHER),
+            (0x24, [K, Y], lambda kmip: kmip.mac_verify('other', b'x', b'm'), ANOTHER),
+            (0x22, [K, Y], lambda kmip: kmip.verify('other', b'x', b's'), ANOTHER),
+            (0x1F, [Y], lambda kmip: kmip.encrypt('k', b'x'), ANOTHER),
+            (0x1F, [], lambda kmip: kmip.encrypt('k', b'x'), 'answer with an empty payload'),
+            (4, [], lambda kmip: kmip.rekey('k'), 'answer with an empty payload'),
+            (4, [identifier('')], lambda kmip: kmip.rekey('k'), 'answer without an identifier'),
+            (0x12, [K], lambda kmip: kmip.operation('Activate', [Item('UniqueIdentifier', 'o')]),
+             ANOTHER)]
+        for operation, payload, call, why in calls:
+            with answered(operation, *payload) as (kmip, _), self.subTest((operation, payload)):
+                with self.assertRaisesRegex(OtherObject, why):
                     call(kmip)
                 self.assertFalse(kmip.is_open)
 
     def test_a_value_that_is_missing_is_an_error(self) -> None:
         calls: List[Tuple[int, List[bytes], Callable[[Client], object]]] = [
             (0x1F, [K], lambda kmip: kmip.encrypt('k', b'x')),
-            (0x1F, [Y], lambda kmip: kmip.encrypt('k', b'x')),
             (0x1F, [K, Y, Y], lambda kmip: kmip.encrypt('k', b'x')),
             (0x1F, [K, Y, IV, IV], lambda kmip: kmip.encrypt('k', b'x')),
             (0x20, [K], lambda kmip: kmip.decrypt('k', b'x')),
             (0x23, [K], lambda kmip: kmip.mac('k', b'x')),
             (0x24, [K], lambda kmip: kmip.mac_verify('k', b'x', b'm')),
             (0x22, [K, enumeration(0x42009B, 3)], lambda kmip: kmip.verify('k', b'x', b's')),
-            (4, [], lambda kmip: kmip.rekey('k'))]
+            (4, [X], lambda kmip: kmip.rekey('k'))]
         for operation, answer, call in calls:
             with answered(operation, *answer) as (kmip, _), self.subTest((operation, answer)):
                 with self.assertRaises(MissingValue):

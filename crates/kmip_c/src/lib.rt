@@ -169,9 +169,10 @@ pub extern "C" fn kmip_contents_len(bytes: &[u8], limit: u32) -> i64
 /// - 1: the answer is an error, and the connection is good for the next call.
 /// - 2: the words are no call.
 /// - 3: the response ends early, or is no well-formed message, or is none to this call: it has not
-///   one batch item, is of another operation, or has another Unique Batch Item ID; or, of a typed
-///   call, answers about another object than the call asked about, or lacks what was asked for. The
-///   connection is to be closed.
+///   one batch item, is of another operation, or has another Unique Batch Item ID; answers about
+///   another object than the call asked about, has an empty identifier, or one for two keys; of a
+///   typed call lacks what was asked for, or of a call of the table has no field in its payload.
+///   The connection is to be closed.
 /// - 5: memory ran out.
 #[unsafe(no_mangle)]
 pub extern "C" fn kmip_answer(
@@ -312,10 +313,9 @@ fn form_of(plain: bool) -> PayloadForm
 /// The call is given as to `kmip_operation_request`. The line has the response's payload, or the
 /// error: as `{"answer":TREE}` in the JSON of that encoding, or with `plain` as an object of its
 /// members, as `kmip_answer` writes it. The statuses are those of
-/// `kmip_answer`: after 2 and 5 there is no line, and `length` is 0. But the object that the answer
-/// is about is not compared with that of the call. Where the call has a Unique Batch Item ID, a
-/// response with another or none is none to the call: the status is 3, unless it is a failure that
-/// names no operation and has no ID.
+/// `kmip_answer`: after 2 and 5 there is no line, and `length` is 0. Where the call has a Unique
+/// Batch Item ID, a response with another or none is none to the call: the status is 3, unless it
+/// is a failure that names no operation and has no ID.
 #[unsafe(no_mangle)]
 pub extern "C" fn kmip_operation_answer(
     alloc: Global,

@@ -222,6 +222,22 @@ const ANSWERS: &[AnswerRow] = &[
         status: 3,
         line: "{\"error\":\"InternalError\",\"text\":\"Response does not match request operation Decrypt\",\"response\":\"7B[7A[69[6Ai6Bi]92d0Di]0F[5Ce1F:7Fe0:7C[C2x]]]\"}\n",
     },
+    // another object, none, and no payload
+    AnswerRow {
+        response: "OK2(20, 94 \"k2\",C2 xDEADBEEF)",
+        status: 3,
+        line: "{\"error\":\"InternalError\",\"text\":\"answer for another object\",\"response\":\"7B[7A[69[6Ai6Bi]92d0Di]0F[5Ce20:7Fe0:7C[94tC2x]]]\"}\n",
+    },
+    AnswerRow {
+        response: "OK2(20, C2 xDEADBEEF)",
+        status: 3,
+        line: "{\"error\":\"InternalError\",\"text\":\"answer for another object\",\"response\":\"7B[7A[69[6Ai6Bi]92d0Di]0F[5Ce20:7Fe0:7C[C2x]]]\"}\n",
+    },
+    AnswerRow {
+        response: "RES2(5C e20,7F e0)",
+        status: 3,
+        line: "{\"error\":\"InternalError\",\"text\":\"answer with an empty payload\",\"response\":\"7B[7A[69[6Ai6Bi]92d0Di]0F[5Ce20:7Fe0:]]\"}\n",
+    },
     AnswerRow {
         response: "!42007B010000009042007A01",
         status: 3,

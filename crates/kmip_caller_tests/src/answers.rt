@@ -250,8 +250,8 @@ const IDENTIFIED_OPERATIONS: &[Row] = &[
     },
     Row {
         shows: "an answer with an ID to an operation without one",
-        response: "RES2(5C e1F,93 x0102A0B2,7F e0)",
-        line: "{\"answer\":{\"tag\":\"ResponsePayload\",\"value\":[]}}\n",
+        response: "RES2(5C e1F,93 x0102A0B2,7F e0,7C{C2 x00})",
+        line: "{\"answer\":{\"tag\":\"ResponsePayload\",\"value\":[{\"tag\":\"Data\",\"type\":\"ByteString\",\"value\":\"00\"}]}}\n",
         ..ENCRYPTED
     },
     Row {
@@ -347,6 +347,26 @@ const OPERATIONS: &[Row] = &[
         response: "RES2(5C e1F,7F e1,7E eA,7D \"bad \\\"iv\\\"\")",
         line: "{\"error\":\"ServerError\",\"text\":\"Operation Encrypt failed: bad \\\"iv\\\"\",\"reason\":{\"name\":\"CryptographicFailure\",\"number\":10},\"message\":\"bad \\\"iv\\\"\"}\n",
         status: 1,
+        ..ENCRYPTED
+    },
+    Row {
+        shows: "an operation on an object, and an answer about another one",
+        words: &[
+            "operation",
+            "Activate",
+            "{\"tag\":\"RequestPayload\",\"value\":[{\"tag\":\"UniqueIdentifier\",\"type\":\"TextString\",\"value\":\"k1\"}]}",
+        ],
+        response: "OK2(12, 94 \"k2\")",
+        sent: "REQ2(12, 94 \"k1\")",
+        line: "{\"error\":\"InternalError\",\"text\":\"answer for another object\",\"response\":\"7B[7A[69[6Ai6Bi]92d0Di]0F[5Ce12:7Fe0:7C[94t]]]\"}\n",
+        status: 3,
+        ..ENCRYPTED
+    },
+    Row {
+        shows: "a success of an operation without a payload",
+        response: "RES2(5C e1F,7F e0)",
+        line: "{\"error\":\"InternalError\",\"text\":\"answer with an empty payload\",\"response\":\"7B[7A[69[6Ai6Bi]92d0Di]0F[5Ce1F:7Fe0:]]\"}\n",
+        status: 3,
         ..ENCRYPTED
     },
     Row {

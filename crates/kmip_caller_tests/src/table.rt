@@ -24,9 +24,9 @@ const ENCRYPTED: Row = Row {
 const IDENTIFIED: Row = Row {
     shows: "an encrypt with a Unique Batch Item ID",
     words: &["item-id=0102a0B1", "encrypt", "k1", "00FF"],
-    response: "RES2(5C e1F,93 x0102A0B1,7F e0,7C{C2 xDEADBEEF})",
+    response: "RES2(5C e1F,93 x0102A0B1,7F e0,7C{94 \"k1\",C2 xDEADBEEF})",
     sent: "78{77{69{6A i1,6B i2},0D i1},0F{5C e1F,93 x0102A0B1,79{94 \"k1\",C2 x00FF}}}",
-    line: "{\"answer\":{\"data\":\"DEADBEEF\"}}\n",
+    line: "{\"answer\":{\"unique_identifier\":\"k1\",\"data\":\"DEADBEEF\"}}\n",
     ..ANSWERED
 };
 
@@ -117,6 +117,45 @@ const ANSWERS: &[Row] = &[
         line: "{\"error\":\"InternalError\",\"text\":\"Response does not match request operation Encrypt\",\"response\":\"7B[7A[69[6Ai6Bi]92d0Di]0F[5Ce20:7Fe0:7C[C2x]]]\"}\n",
         status: 3,
         ..ENCRYPTED
+    },
+    Row {
+        shows: "an answer about another object",
+        response: "OK2(1F, 94 \"k2\",C2 xDEADBEEF)",
+        line: "{\"error\":\"InternalError\",\"text\":\"answer for another object\",\"response\":\"7B[7A[69[6Ai6Bi]92d0Di]0F[5Ce1F:7Fe0:7C[94tC2x]]]\"}\n",
+        status: 3,
+        ..ENCRYPTED
+    },
+    Row {
+        shows: "an answer about no object",
+        response: "OK2(1F, C2 xDEADBEEF)",
+        line: "{\"error\":\"InternalError\",\"text\":\"answer for another object\",\"response\":\"7B[7A[69[6Ai6Bi]92d0Di]0F[5Ce1F:7Fe0:7C[C2x]]]\"}\n",
+        status: 3,
+        ..ENCRYPTED
+    },
+    Row {
+        shows: "a success without a payload",
+        response: "RES2(5C e1F,7F e0)",
+        line: "{\"error\":\"InternalError\",\"text\":\"answer with an empty payload\",\"response\":\"7B[7A[69[6Ai6Bi]92d0Di]0F[5Ce1F:7Fe0:]]\"}\n",
+        status: 3,
+        ..ENCRYPTED
+    },
+    Row {
+        shows: "one identifier for two keys",
+        words: &["rekey-pair", "2"],
+        response: "OK2(1D, 66 \"4\",6F \"4\")",
+        sent: "REQ2(1D, 66 \"2\")",
+        line: "{\"error\":\"InternalError\",\"text\":\"answer with one identifier for two keys\",\"response\":\"7B[7A[69[6Ai6Bi]92d0Di]0F[5Ce1D:7Fe0:7C[66t6Ft]]]\"}\n",
+        status: 3,
+        ..ANSWERED
+    },
+    Row {
+        shows: "a new key without an identifier",
+        words: &["rekey", "4"],
+        response: "OK2(4, 94 \"\")",
+        sent: "REQ2(4, 94 \"4\")",
+        line: "{\"error\":\"InternalError\",\"text\":\"answer without an identifier\",\"response\":\"7B[7A[69[6Ai6Bi]92d0Di]0F[5Ce4:7Fe0:7C[94t]]]\"}\n",
+        status: 3,
+        ..ANSWERED
     },
     Row {
         shows: "an answer with another Unique Batch Item ID",

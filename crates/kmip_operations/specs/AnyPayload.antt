@@ -5,9 +5,7 @@ use Rattle.std.specs.List.{list_any}
 use Rattle.std.specs.Option.{option_and_then}
 use Rattle.std.specs.Result.{result_ok}
 use Rattle.kmip_tags.specs.Tags as tags
-use Rattle.kmip_tags.specs.Tags.{UNIQUE_IDENTIFIER}
 use Rattle.kmip_wire.specs.Tree.{Tree}
-use Rattle.kmip_wire.specs.Parts.{text_in}
 use Rattle.kmip_request.specs.declared.payload.RequestPayload.{RequestPayload}
 use Rattle.kmip_enums.specs.declared.operation.Operation.{Operation}
 use Rattle.kmip_enums.specs.declared.operation.Operation.TheVariants as operations
@@ -17,7 +15,7 @@ use Rattle.kmip_client.specs.Outcome.{Answer, answer_by, answer_of}
 use Rattle.kmip_client.specs.Untyped.{identified_answer}
 use Rattle.kmip_client.specs.declared.error.Error.{Error}
 use Rattle.kmip_client.specs.declared.error.Error.TheVariants.{InternalError}
-use Rattle.kmip_words.specs.Exchange.{Settings, operation_asked, or_empty}
+use Rattle.kmip_words.specs.Exchange.{Settings, operation_asked}
 use Rattle.kmip_words.specs.Refusal.{item_with}
 use Rattle.kmip_words.specs.About.{asked_about, differs, response_line, response_ending}
 use Rattle.kmip_words.specs.declared.call.Call.{Call}
@@ -26,6 +24,7 @@ use Rattle.kmip_words.specs.declared.ending.Ending.{Ending}
 use Rattle.kmip_words.specs.declared.ending.Ending.TheVariants.{Answered, Lost}
 use Rattle.kmip_operations.specs.Answers.{tree_line}
 use Rattle.kmip_operations.specs.JsonLines.{IsTextLine}
+use Rattle.kmip_operations.specs.Objections.{first_identifier}
 
 -- whether a call fetches what the server has: by Get, where no wrapping is asked for, or by Get
 -- Attributes
@@ -72,10 +71,6 @@ unread_payload operation here =
 abbrev pub fetched_payload : Call → Message → Option Tree
 fetched_payload call here =
     if is_fetch call then unread_payload (operation_asked call) here else None
-
--- the first Unique Identifier in a payload, empty where there is none
-abbrev pub first_identifier : Tree → List ℕ
-first_identifier payload = or_empty (option_and_then text_in (item_with UNIQUE_IDENTIFIER payload))
 
 -- the answer to a call that asked about this identifier: an error where the payload is about another
 -- object

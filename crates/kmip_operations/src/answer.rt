@@ -1,17 +1,21 @@
 //! The line of what a response answers to a call whose payloads are trees.
 ghost use Rattle.std.specs.Prelude.{◌≡◌, ◌++◌, ◌≤◌, [], length, take, option_map};
-ghost use Rattle.std.specs.Prelude.{None, Err, IfOk, OnOk, IsUtf8};
+ghost use Rattle.std.specs.Prelude.{Ok, Err, IfOk, OnOk, IsUtf8};
 ghost use Rattle.kmip_shape.specs.declared.style.Style.TheVariants.{Json};
 ghost use Rattle.kmip_plain.specs.Payload.{payload_text};
 ghost use Rattle.kmip_plain.specs.declared.payload.PayloadForm.{PayloadForm as TheForm};
 ghost use Rattle.kmip_words.specs.Exchange.{value_line};
+ghost use Rattle.kmip_client.specs.declared.error.Error.TheVariants.{InternalError};
+ghost use Rattle.kmip_words.specs.Refusal.{failure_line};
 ghost use Rattle.kmip_operations.specs.Calls.{request_of};
 ghost use Rattle.kmip_operations.specs.Answers.{operation_json_line, operation_ending};
-ghost use Rattle.kmip_operations.specs.Answers.{ending_for, AddsTreeLine};
+ghost use Rattle.kmip_operations.specs.Answers.{operation_of, id_of, ending_for};
+ghost use Rattle.kmip_operations.specs.Answers.{objection_to, AddsErrorLine, AddsTreeLine};
 ghost use Rattle.kmip_operations.specs.JsonLines.{IsTextLine};
 
 use crate::call::{OperationCall, id_of};
 use crate::laws::lines_are_json;
+use crate::objection::objection;
 use kmip_client::{Error, Reading, is_of_other_item, read_operation_response};
 use kmip_enums::Operation;
 use kmip_plain::{PayloadForm, push_payload};
@@ -57,7 +61,7 @@ fn ending_for(
 
 /// Adds an error as a line of JSON, and returns how a call ended that has no Unique Batch Item ID.
 /// `first` is the message that was taken, and `operation` that of the call, `None` for a message of
-/// the caller's. The line is the same in each form.
+/// the caller's.
 fn push_error_line(
     alloc: Global,
     operation: Option<Operation>,
@@ -66,8 +70,7 @@ fn push_error_line(
     line: &mut Text,
 ) -> Result<Ending, OutOfMemory>
     ensures { IfOk result
-        (λ ending. (form : TheForm) → AddsTreeLine form operation None (Err error.now) first.now
-        ending line.old line.new) }
+        (λ ending. AddsErrorLine operation error.now first.now ending line.old line.new) }
 {
     lines_are_json();
     line.as_str();
@@ -76,50 +79,125 @@ fn push_error_line(
     ending
 }
 
+/// The operation of a call, if one is known.
+fn operation_of(asked: Option<&OperationCall>) -> Option<Operation>
+    ensures { result ≡ operation_of (option_map (λ call. request_of call.now) asked.entry) }
+{
+    match asked {
+        Some(call) => Some(call.operation),
+        None => None,
+    }
+}
+
+/// The Unique Batch Item ID of a call's request, if it is known and has one.
+fn id_if_asked<'a>(asked: Option<&'a OperationCall>) -> Option<&'a [u8]>
+    ensures { option_map (λ id. id.now) result ≡
+        id_of (option_map (λ call. request_of call.now) asked.entry) }
+{
+    match asked {
+        Some(call) => id_of(call),
+        None => None,
+    }
+}
+
 /// Adds an error as a line of JSON, and returns how the call ended. `first` is the message that was
-/// taken, and `operation` and `id` those of the call, `None` for a message of the caller's. The line
-/// is the same in each form.
+/// taken, and `asked` the call, `None` for a message of the caller's. The line is the same in each
+/// form.
 fn push_error(
     alloc: Global,
-    operation: Option<Operation>,
-    id: Option<&[u8]>,
+    asked: Option<&OperationCall>,
     error: &Error,
     first: &[u8],
     line: &mut Text,
 ) -> Result<Ending, OutOfMemory>
-    ensures { IfOk result (λ ending. (form : TheForm) → AddsTreeLine form operation
-        (option_map (λ id. id.now) id.entry) (Err error.now) first.now ending line.old line.new) }
+    ensures { IfOk result (λ ending. (form : TheForm) → AddsTreeLine form
+        (option_map (λ call. request_of call.now) asked.entry) (Err error.now) first.now ending
+        line.old line.new) }
 {
-    let ended = push_error_line(alloc, operation, error, first, line)?;
-    ending_for(alloc, id, first, ended)
+    let ended = push_error_line(alloc, operation_of(asked), error, first, line)?;
+    ending_for(alloc, id_if_asked(asked), first, ended)
+}
+
+/// Adds the line of the error that stands in place of a payload that is no answer to its call, where
+/// `why` says why. `first` is the message that was taken.
+fn push_objection(
+    alloc: Global,
+    why: &str,
+    first: &[u8],
+    line: &mut Vec<u8>,
+) -> Result<(), OutOfMemory>
+    ensures line { OnOk result (line.new.items ≡
+        line.old.items ++ failure_line (InternalError why.now) first.now) }
+    ensures json { OnOk result (IsTextLine (failure_line (InternalError why.now) first.now)) }
+{
+    let error = Error::InternalError(Text::of(alloc, why)?);
+    let mut text = Text::new(alloc);
+    push_error_line(alloc, None, &error, first, &mut text)?;
+    line.extend_from_slice(text.as_str().as_bytes())?;
+    Ok(())
+}
+
+/// Why a payload is no answer to the call, where it is none; to a message of the caller's each is
+/// one.
+fn objection_to(asked: Option<&OperationCall>, tree: &Tree) -> Option<&'static str>
+    ensures { option_map (λ text. text.now) result ≡
+        objection_to (option_map (λ call. request_of call.now) asked.entry) tree.now }
+{
+    match asked {
+        Some(call) => objection(call, tree),
+        None => None,
+    }
+}
+
+/// Adds the line of a payload in this form, or of the error in its place where it is no answer to
+/// the call, and returns how the call ended. `first` is the message that was taken, and `asked` the
+/// call, `None` for a message of the caller's.
+fn push_payload_line(
+    alloc: Global,
+    form: PayloadForm,
+    asked: Option<&OperationCall>,
+    tree: &Tree,
+    first: &[u8],
+    line: &mut Vec<u8>,
+) -> Result<Ending, OutOfMemory>
+    ensures { IfOk result (λ ending. AddsTreeLine form
+        (option_map (λ call. request_of call.now) asked.entry) (Ok tree.now) first.now ending
+        line.old.items line.new.items) }
+{
+    lines_are_json();
+    match objection_to(asked, tree) {
+        Some(why) => {
+            push_objection(alloc, why, first, line)?;
+            Ok(Ending::Lost)
+        }
+        None => {
+            tree.ranges();
+            push_tree(alloc, form, tree, line)?;
+            Ok(Ending::Answered)
+        }
+    }
 }
 
 /// Adds the line of what a call is answered with, its payload in this form, and returns how the call
-/// ended. `first` is the message that was taken, and `operation` and `id` those of the call, `None`
-/// for a message of the caller's. Its only error is `OutOfMemory`; then a part of the line may have been added.
+/// ended. `first` is the message that was taken, and `asked` the call, `None` for a message of the
+/// caller's. Its only error is `OutOfMemory`; then a part of the line may have been added.
 fn push_answer(
     alloc: Global,
     form: PayloadForm,
-    operation: Option<Operation>,
-    id: Option<&[u8]>,
+    asked: Option<&OperationCall>,
     answer: Result<Tree, Error>,
     first: &[u8],
     line: &mut Vec<u8>,
 ) -> Result<Ending, OutOfMemory>
-    ensures { IfOk result (λ ending. AddsTreeLine form operation
-        (option_map (λ id. id.now) id.entry) answer first.now ending line.old.items
-        line.new.items) }
+    ensures { IfOk result (λ ending. AddsTreeLine form
+        (option_map (λ call. request_of call.now) asked.entry) answer first.now ending
+        line.old.items line.new.items) }
 {
-    lines_are_json();
     match answer {
-        Ok(tree) => {
-            tree.ranges();
-            push_tree(alloc, form, &tree, line)?;
-            Ok(Ending::Answered)
-        }
+        Ok(tree) => push_payload_line(alloc, form, asked, &tree, first, line),
         Err(error) => {
             let mut text = Text::new(alloc);
-            let ending = push_error(alloc, operation, id, &error, first, &mut text)?;
+            let ending = push_error(alloc, asked, &error, first, &mut text)?;
             line.extend_from_slice(text.as_str().as_bytes())?;
             Ok(ending)
         }
@@ -135,31 +213,23 @@ pub struct TreeAnswer {
     pub line: Vec<u8>,
 }
 
-/// How a call of this operation, with this Unique Batch Item ID, ended with this reading of a
-/// response, and its line; of a message of the caller's where both are `None`.
+/// How a call ended with this reading of a response, and its line. `asked` is the call, `None` for a
+/// message of the caller's.
 pub fn tree_answer_of(
     alloc: Global,
     form: PayloadForm,
-    operation: Option<Operation>,
-    id: Option<&[u8]>,
+    asked: Option<&OperationCall>,
     reading: Reading<Tree>,
     response: &[u8],
 ) -> Result<TreeAnswer, OutOfMemory>
     requires { reading.taken ≤ length response.now }
-    ensures { IfOk result (λ answer. AddsTreeLine form operation (option_map (λ id. id.now) id.entry)
-        reading.answer (take reading.taken response.now) answer.ending [] answer.line.items) }
+    ensures { IfOk result (λ answer. AddsTreeLine form
+        (option_map (λ call. request_of call.now) asked.entry) reading.answer
+        (take reading.taken response.now) answer.ending [] answer.line.items) }
 {
     let Reading { answer, taken } = reading;
     let mut line = Vec::new(alloc);
-    let ending = push_answer(
-        alloc,
-        form,
-        operation,
-        id,
-        answer,
-        &response[..taken],
-        &mut line,
-    )?;
+    let ending = push_answer(alloc, form, asked, answer, &response[..taken], &mut line)?;
     Ok(TreeAnswer { ending, line })
 }
 
@@ -183,6 +253,14 @@ pub fn tree_answer_of(
 /// Batch Item ID, such is also one that has another or none, and its line has the error
 /// `InternalError`; but a failure that names no operation and has no ID is the call's, since so a
 /// server fails that could not read the request.
+///
+/// Such is also a success whose payload is no answer to the call, and its line has the error
+/// `InternalError`: with the text `answer with an empty payload`, where it has no field, or there is
+/// no payload, but for Locate, Query, Discover Versions, Poll, Notify and Put; `answer for another
+/// object`, where the call names an object, or Cancel an operation, and the response is to name it
+/// too, and names another or none; `answer with one identifier for two keys`, where Create Key Pair
+/// or Re-key Key Pair has one; and `answer without an identifier`, where a field of the payload is
+/// an empty identifier or Asynchronous Correlation Value.
 pub fn operation_answer(
     alloc: Global,
     settings: &Settings,
@@ -198,5 +276,5 @@ pub fn operation_answer(
 {
     let id = id_of(call);
     let reading = read_operation_response(alloc, call.operation, id, response, settings.limit());
-    tree_answer_of(alloc, form, Some(call.operation), id, reading, response)
+    tree_answer_of(alloc, form, Some(call), reading, response)
 }

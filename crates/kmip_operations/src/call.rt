@@ -102,7 +102,7 @@ pub fn structure_of(alloc: Global, text: &str, tag: u32) -> Result<Option<Tree>,
 }
 
 /// Whether the identifier of an object stands under a tag.
-fn is_identifier(tag: u32) -> bool
+pub(crate) fn is_identifier(tag: u32) -> bool
     ensures { result ≡ is_identifier tag }
 {
     tag == UNIQUE_IDENTIFIER

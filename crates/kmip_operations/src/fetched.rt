@@ -1,11 +1,9 @@
 //! What a response answers to a typed call, also where its tables have no words for the payload.
-ghost use Rattle.std.specs.Prelude.{◌≡◌, ◌≢◌, ◌≤◌, ◌==◌, ℕ, length, take, true, false, codes};
-ghost use Rattle.std.specs.Prelude.{Some, None, Err, option_map, option_copied};
+ghost use Rattle.std.specs.Prelude.{◌≡◌, ◌≢◌, ◌≤◌, length, take, true, false, codes};
+ghost use Rattle.std.specs.Prelude.{Some, None, Err, option_map};
 ghost use Rattle.std.specs.Prelude.{IfOk, OnOk, IfSome, MatchOption};
-ghost use Rattle.std.specs.List.{find, list_any};
+ghost use Rattle.std.specs.List.{list_any};
 ghost use Rattle.std.specs.Result.{result_ok};
-ghost use Rattle.kmip_wire.specs.Parts.{tag_of, text_in};
-ghost use Rattle.kmip_wire.specs.Sees.{tree_of_node};
 ghost use Rattle.kmip_wire.specs.Tree.{Tree as TheTree};
 ghost use Rattle.kmip_plain.specs.declared.payload.PayloadForm.TheVariants.{Tree as AsTree};
 ghost use Rattle.kmip_client.specs.Message.{message_at, taken_for};
@@ -13,19 +11,19 @@ ghost use Rattle.kmip_client.specs.Outcome.{answer_of, answer_with_payload};
 ghost use Rattle.kmip_client.specs.declared.error.Error.{Error as TheError};
 ghost use Rattle.kmip_client.specs.declared.error.Error.TheVariants.{InternalError};
 ghost use Rattle.kmip_words.specs.Exchange.{operation_asked};
-ghost use Rattle.kmip_words.specs.Refusal.{item_with};
-ghost use Rattle.kmip_words.specs.About.{identifier_or_none, asked_about, differs};
+ghost use Rattle.kmip_words.specs.About.{identifier_or_none, asked_about};
 ghost use Rattle.kmip_words.specs.About.{response_line, response_ending};
 ghost use Rattle.kmip_words.specs.declared.call.Call.TheVariants.{Request};
 ghost use Rattle.kmip_words.specs.declared.ending.Ending.TheVariants.{Lost};
 ghost use Rattle.kmip_operations.specs.Answers.{tree_line};
 ghost use Rattle.kmip_operations.specs.AnyPayload.{is_fetch, is_unread, unread_payload};
 ghost use Rattle.kmip_operations.specs.AnyPayload.{object_tags, has_item, has_fetched};
-ghost use Rattle.kmip_operations.specs.AnyPayload.{fetched_payload, first_identifier, AnswersWith};
+ghost use Rattle.kmip_operations.specs.AnyPayload.{fetched_payload, AnswersWith};
 ghost use Rattle.kmip_operations.specs.AnyPayload.{call_line, call_ending};
 ghost use Rattle.kmip_operations.specs.JsonLines.{IsTextLine};
 
 use crate::answer::{TreeAnswer, tree_answer_of};
+use crate::objection::{differs, first_identifier, item_with};
 use kmip_client::{Error, Reading, read_operation_response, read_response};
 use kmip_enums::Operation;
 use kmip_plain::PayloadForm;
@@ -33,10 +31,10 @@ use kmip_request::RequestPayload;
 use kmip_response::ResponsePayload;
 use kmip_tags::tags::{
     CERTIFICATE, CERTIFICATE_REQUEST, OBJECT_TYPE, OPAQUE_OBJECT, PGP_KEY, PRIVATE_KEY, PUBLIC_KEY,
-    SECRET_DATA, SPLIT_KEY, SYMMETRIC_KEY, TEMPLATE, UNIQUE_IDENTIFIER,
+    SECRET_DATA, SPLIT_KEY, SYMMETRIC_KEY, TEMPLATE,
 };
 use kmip_types::UniqueIdentifier;
-use kmip_wire::{Node, OutOfMemory, Text, Tree};
+use kmip_wire::{OutOfMemory, Text, Tree};
 use kmip_words::{Call, Ending, Settings, answer_of};
 use std::alloc::Global;
 
@@ -186,30 +184,6 @@ fn payload_in(reading: Reading<Tree>) -> Result<Option<Payload>, OutOfMemory>
     }
 }
 
-/// Whether an item has this tag.
-fn has_tag(item: &Tree, tag: u32) -> bool
-    ensures { result ≡ (tag_of item.now == tag) }
-{
-    item.tag.number() == tag
-}
-
-/// The first of the items that has this tag.
-fn first_with(items: &[Tree], tag: u32) -> Option<&Tree>
-    ensures { option_copied result ≡ find (λ item. tag_of item == tag) items.now }
-{
-    items.iter().find(|item| has_tag(item, tag))
-}
-
-/// The first item with this tag in a payload.
-fn item_with(payload: &Tree, tag: u32) -> Option<&Tree>
-    ensures { option_copied result ≡ item_with tag payload.now }
-{
-    match &payload.node {
-        Node::Structure(items) => first_with(items.as_slice(), tag),
-        _ => None,
-    }
-}
-
 /// The tags of objects: KMIP 1.2, 2.2, and that of a certificate request, an object since KMIP 2.0.
 const OBJECTS: &[u32] = &[
     CERTIFICATE,
@@ -286,33 +260,6 @@ fn unread_payload(
     }
 }
 
-/// The text of a Text String.
-fn text_of(node: &Node) -> Option<&str>
-    ensures { (tag : ℕ) → option_map (λ s. s.now) result ≡ text_in (tree_of_node tag node.now) }
-{
-    match node {
-        Node::TextString(text) => Some(text.as_str()),
-        _ => None,
-    }
-}
-
-/// The first Unique Identifier in a payload, empty where there is none.
-fn first_identifier(payload: &Tree) -> &str
-    ensures { result.now ≡ first_identifier payload.now }
-{
-    match item_with(payload, UNIQUE_IDENTIFIER) {
-        Some(item) => text_of(&item.node).unwrap_or(""),
-        None => "",
-    }
-}
-
-/// Whether an identifier was asked about, and another one was answered.
-fn differs(asked: &str, answered: &str) -> bool
-    ensures { result ≡ differs asked.now answered.now }
-{
-    !asked.is_empty() && asked != answered
-}
-
 /// The line of a payload about another object, and how its call ended.
 fn other_object(alloc: Global, taken: usize, response: &[u8]) -> Result<TreeAnswer, OutOfMemory>
     requires { taken ≤ length response.now }
@@ -327,7 +274,6 @@ fn other_object(alloc: Global, taken: usize, response: &[u8]) -> Result<TreeAnsw
     let TreeAnswer { line, .. } = tree_answer_of(
         alloc,
         PayloadForm::Tree,
-        None,
         None,
         reading,
         response,
@@ -350,12 +296,12 @@ fn payload_answer(
         (take found.taken response.now) answer.ending answer.line.items) }
 {
     let Payload { payload, taken } = found;
-    if differs(asked, first_identifier(&payload)) {
+    if differs(asked.as_bytes(), first_identifier(&payload).as_bytes()) {
         return other_object(alloc, taken, response);
     }
     let answer = Ok(payload);
     let reading = Reading { answer, taken };
-    tree_answer_of(alloc, PayloadForm::Tree, None, None, reading, response)
+    tree_answer_of(alloc, PayloadForm::Tree, None, reading, response)
 }
 
 /// What these bytes answer to a call that fetches, where the typed reading has no words for them.

@@ -34,18 +34,18 @@ pub fn lines_are_json()
 pub fn responses_are_outcomes()
     ensures operation_line { (form : TheForm) (settings : TheSettings) (request : TreeRequest)
         (rest : List ℕ) → IsSome (operation_bytes request settings.credential) →
-        outcome_line form (Some request.operation) (operation_outcome settings request rest) rest ≡
+        outcome_line form (Some request) (operation_outcome settings request rest) rest ≡
         operation_json_line form settings request rest }
     ensures operation_ending { (settings : TheSettings) (request : TreeRequest) (rest : List ℕ) →
         IsSome (operation_bytes request settings.credential) →
-        outcome_ending (Some request.operation) request.id
-        (operation_outcome settings request rest) rest ≡ operation_ending settings request rest }
+        outcome_ending (Some request) (operation_outcome settings request rest) rest ≡
+        operation_ending settings request rest }
     ensures message_line { (settings : TheSettings) (message : Tree) (rest : List ℕ) →
         IsSome (whole_bytes message) →
         outcome_line AsTree None (message_outcome settings message rest) rest ≡
         message_json_line settings rest }
     ensures message_ending { (settings : TheSettings) (message : Tree) (rest : List ℕ) →
         IsSome (whole_bytes message) →
-        outcome_ending None None (message_outcome settings message rest) rest ≡
+        outcome_ending None (message_outcome settings message rest) rest ≡
         message_ending settings rest }
 {}

@@ -14,6 +14,7 @@ mod call;
 mod fetched;
 mod laws;
 mod message;
+mod objection;
 mod refusal;
 mod request;
 

@@ -51,5 +51,5 @@ pub fn message_answer(
     ensures json { IfOk result (λ answer. IsTextLine answer.line.items) }
 {
     let reading = read_whole_message(alloc, response, settings.limit());
-    tree_answer_of(alloc, PayloadForm::Tree, None, None, reading, response)
+    tree_answer_of(alloc, PayloadForm::Tree, None, reading, response)
 }

@@ -7,6 +7,8 @@ mod fetched;
 #[cfg(test)]
 mod grammar;
 #[cfg(test)]
+mod objections;
+#[cfg(test)]
 mod operations;
 #[cfg(test)]
 mod requests;

@@ -340,8 +340,8 @@ const ANSWERS: &[AnswerRow] = &[
     },
     AnswerRow {
         response: "RES2(5C e1F,7F e0)",
-        ending: Ending::Answered,
-        line: "{\"answer\":{\"tag\":\"ResponsePayload\",\"value\":[]}}\n",
+        ending: Ending::Lost,
+        line: "{\"error\":\"InternalError\",\"text\":\"answer with an empty payload\",\"response\":\"7B[7A[69[6Ai6Bi]92d0Di]0F[5Ce1F:7Fe0:]]\"}\n",
     },
     // an unknown item, an enumeration past its table, and bytes after the message
     AnswerRow {
@@ -571,9 +571,9 @@ fn a_call_with_an_id_takes_no_answer_with_another(rt: HostRuntime) {
 
 /// An ID in a response to a call that has none.
 const UNASKED: AnswerRow = AnswerRow {
-    response: "RES2(5C e1F,93 x0102A1,7F e0)",
+    response: "RES2(5C e1F,93 x0102A1,7F e0,7C{C2 x00})",
     ending: Ending::Answered,
-    line: "{\"answer\":{\"tag\":\"ResponsePayload\",\"value\":[]}}\n",
+    line: "{\"answer\":{\"tag\":\"ResponsePayload\",\"value\":[{\"tag\":\"Data\",\"type\":\"ByteString\",\"value\":\"00\"}]}}\n",
 };
 
 #[test]

@@ -9,12 +9,12 @@ use Rattle.kmip_operations.proofs.laws.responses_are_outcomes.Goals as goal
 pub returns-clause-operation_line : goal.returns-clause-operation_line
 returns-clause-operation_line c = λ form settings request rest.
     line_same form (operation_bytes request settings.credential)
-    (identified_answer request.operation request.id) settings (Some request.operation) rest
+    (identified_answer request.operation request.id) settings (Some request) rest
 
 pub returns-clause-operation_ending : goal.returns-clause-operation_ending
 returns-clause-operation_ending c = λ settings request rest.
     ending_same (operation_bytes request settings.credential)
-    (identified_answer request.operation request.id) settings (Some request.operation) request.id rest
+    (identified_answer request.operation request.id) settings (Some request) rest
 
 pub returns-clause-message_line : goal.returns-clause-message_line
 returns-clause-message_line c = λ settings message rest.
@@ -22,4 +22,4 @@ returns-clause-message_line c = λ settings message rest.
 
 pub returns-clause-message_ending : goal.returns-clause-message_ending
 returns-clause-message_ending c = λ settings message rest.
-    ending_same (whole_bytes message) whole_answer settings None None rest
+    ending_same (whole_bytes message) whole_answer settings None rest

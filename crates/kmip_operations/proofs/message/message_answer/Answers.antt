@@ -14,7 +14,7 @@ tree_answer_of-requires c =
 pub returns-clause-line : goal.returns-clause-line
 returns-clause-line c =
     let reading = c.read_whole_message-reading.result in
-    due_line AsTree c.tree_answer_of.result None None reading.answer (take reading.taken c.args.response.now)
+    due_line AsTree c.tree_answer_of.result None reading.answer (take reading.taken c.args.response.now)
     (sent_outcome whole_answer c.args.settings.now c.args.response.now) c.args.response.now
     (reply_is whole_answer c.args.settings.now c.args.response.now reading.answer reading.taken
     (rw c.limit.ensures at c.read_whole_message-reading.ensures.answer)
@@ -24,7 +24,7 @@ returns-clause-line c =
 pub returns-clause-ending : goal.returns-clause-ending
 returns-clause-ending c =
     let reading = c.read_whole_message-reading.result in
-    due_ending AsTree c.tree_answer_of.result None None reading.answer (take reading.taken c.args.response.now)
+    due_ending AsTree c.tree_answer_of.result None reading.answer (take reading.taken c.args.response.now)
     (sent_outcome whole_answer c.args.settings.now c.args.response.now) c.args.response.now
     (reply_is whole_answer c.args.settings.now c.args.response.now reading.answer reading.taken
     (rw c.limit.ensures at c.read_whole_message-reading.ensures.answer)
@@ -34,4 +34,4 @@ returns-clause-ending c =
 pub returns-clause-json : goal.returns-clause-json
 returns-clause-json c =
     let reading = c.read_whole_message-reading.result in
-    told_json AsTree c.tree_answer_of.result None None reading.answer (take reading.taken c.args.response.now) c.tree_answer_of.ensures
+    told_json AsTree c.tree_answer_of.result None reading.answer (take reading.taken c.args.response.now) c.tree_answer_of.ensures

@@ -3,7 +3,7 @@ use Rattle.std.specs.List.{find}
 use Rattle.kmip_wire.specs.Parts.{tag_of}
 use Rattle.kmip_wire.specs.Sees.{tree_of_node}
 use Rattle.kmip_operations.proofs.AnyPayloads.{found_in}
-use Rattle.kmip_operations.proofs.fetched.item_with.Goals as goal
+use Rattle.kmip_operations.proofs.objection.item_with.Goals as goal
 
 pub returns-in-Structure : goal.returns-in-Structure
 returns-in-Structure c =

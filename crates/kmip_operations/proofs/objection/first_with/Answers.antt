@@ -2,7 +2,7 @@ use Rattle.std.proofs.Common.{◌==◌, rules, tests}
 use Rattle.std.proofs.lemmas.Iterator.{YieldsList-from_slice}
 use Rattle.std.proofs.lemmas.Iterator.Search.{find_from_yields_List}
 use Rattle.kmip_wire.specs.Parts.{tag_of}
-use Rattle.kmip_operations.proofs.fetched.first_with.Goals as goal
+use Rattle.kmip_operations.proofs.objection.first_with.Goals as goal
 
 pub returns : goal.returns
 returns c =
