@@ -30,7 +30,7 @@ use Rattle.kmip_words.specs.Exchange.{Settings as LineSettings, Asked as LineAsk
 use Rattle.kmip_joined.specs.Lines.{line_call}
 use Rattle.kmip_joined.specs.World.{World, Joined, next_made, after_request, after_sending, joined_step, world_of}
 use Rattle.kmip_joined.specs.Reports.{IsJoined, HasPlainAnswers, IsMade, ReportsStep}
-use Rattle.kmip_joined.proofs.Made.{IsMadeSo}
+use Rattle.kmip_joined.proofs.AfterCall.{IsMadeSo}
 use Rattle.kmip_joined.proofs.PlainServer.{append_none, first_is}
 use Rattle.kmip_joined.proofs.Plain.{world_same, world_at, Stands, stands}
 use Rattle.kmip_joined.proofs.ReportedCalls.{told_as}

@@ -10,7 +10,7 @@ use Rattle.kmip_words.specs.Exchange.{settings_of, Step}
 use Rattle.kmip_joined.specs.Lines.{line_call}
 use Rattle.kmip_joined.specs.World.{joined_step, world_of}
 use Rattle.kmip_joined.specs.Reports.{IsJoined, IsMade, IsShown, Runs, ReportsStep}
-use Rattle.kmip_joined.proofs.Made.{IsMadeSo}
+use Rattle.kmip_joined.proofs.AfterCall.{IsMadeSo}
 use Rattle.kmip_joined.proofs.Calls.{made_so}
 
 abbrev Clients : Type 0
