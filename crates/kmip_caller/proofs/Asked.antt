@@ -72,16 +72,16 @@ exchange_reading settings (found.Typed call) = record {
 }
 exchange_reading settings (found.Operation call form) = record {
   line = λ rest bytes is one. same_by (identified_answer call.operation call.id) settings.limit
-      (λ answer first. tree_line form (answer_to (Some call.operation) answer first) first)
+      (λ answer first. tree_line form (answer_to (Some (request_of call)) answer first) first)
       rest bytes is one;
   ending = λ rest bytes is one. same_by (identified_answer call.operation call.id) settings.limit
-      (tree_ending (Some call.operation) call.id) rest bytes is one;
+      (tree_ending (Some (request_of call))) rest bytes is one;
 }
 exchange_reading settings (found.Message message) = record {
   line = λ rest bytes is one. same_by whole_answer settings.limit
       (λ answer first. tree_line AsTree (answer_to None answer first) first) rest bytes is one;
-  ending = λ rest bytes is one. same_by whole_answer settings.limit (tree_ending None None)
-      rest bytes is one;
+  ending = λ rest bytes is one. same_by whole_answer settings.limit (tree_ending None) rest bytes
+      is one;
 }
 
 -- ---- an order asks for one exchange at most

@@ -118,8 +118,8 @@ fn push_error(
     ending_for(alloc, id_if_asked(asked), first, ended)
 }
 
-/// Adds the line of the error that stands in place of a payload that is no answer to its call, where
-/// `why` says why. `first` is the message that was taken.
+/// Adds the line of the error that stands in place of a payload that is no answer to its call, for
+/// this reason. `first` is the message that was taken.
 fn push_objection(
     alloc: Global,
     why: &str,
@@ -178,9 +178,9 @@ fn push_payload_line(
     }
 }
 
-/// Adds the line of what a call is answered with, its payload in this form, and returns how the call
-/// ended. `first` is the message that was taken, and `asked` the call, `None` for a message of the
-/// caller's. Its only error is `OutOfMemory`; then a part of the line may have been added.
+/// Adds the line of what a call is answered with, its payload in this form, and returns how the
+/// call ended. `first` is the message that was taken, and `asked` the call, `None` for a message of
+/// the caller's. Its only error is `OutOfMemory`; then a part of the line may have been added.
 fn push_answer(
     alloc: Global,
     form: PayloadForm,
@@ -213,8 +213,8 @@ pub struct TreeAnswer {
     pub line: Vec<u8>,
 }
 
-/// How a call ended with this reading of a response, and its line. `asked` is the call, `None` for a
-/// message of the caller's.
+/// How a call ended with this reading of a response, and its line. `asked` is the call, `None` for
+/// a message of the caller's.
 pub fn tree_answer_of(
     alloc: Global,
     form: PayloadForm,

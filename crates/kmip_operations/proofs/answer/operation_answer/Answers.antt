@@ -18,7 +18,8 @@ returns-clause-line c =
     let reading = c.read_operation_response-reading.result in
     let call = c.args.call.now in
     let reads : List ℕ → Result Tree Error = identified_answer call.operation call.id in
-    due_line c.args.form c.tree_answer_of.result (Some (request_of call)) reading.answer (take reading.taken c.args.response.now)
+    due_line c.args.form c.tree_answer_of.result (Some (request_of call)) reading.answer
+    (take reading.taken c.args.response.now)
     (sent_outcome reads c.args.settings.now c.args.response.now) c.args.response.now
     (reply_is reads c.args.settings.now c.args.response.now reading.answer reading.taken
     (rw (c.limit.ensures, c.id_of-id.ensures) at c.read_operation_response-reading.ensures.answer)
@@ -30,7 +31,8 @@ returns-clause-ending c =
     let reading = c.read_operation_response-reading.result in
     let call = c.args.call.now in
     let reads : List ℕ → Result Tree Error = identified_answer call.operation call.id in
-    due_ending c.args.form c.tree_answer_of.result (Some (request_of call)) reading.answer (take reading.taken c.args.response.now)
+    due_ending c.args.form c.tree_answer_of.result (Some (request_of call)) reading.answer
+    (take reading.taken c.args.response.now)
     (sent_outcome reads c.args.settings.now c.args.response.now) c.args.response.now
     (reply_is reads c.args.settings.now c.args.response.now reading.answer reading.taken
     (rw (c.limit.ensures, c.id_of-id.ensures) at c.read_operation_response-reading.ensures.answer)
@@ -40,4 +42,5 @@ returns-clause-ending c =
 pub returns-clause-json : goal.returns-clause-json
 returns-clause-json c =
     let reading = c.read_operation_response-reading.result in
-    told_json c.args.form c.tree_answer_of.result (Some (request_of c.args.call.now)) reading.answer (take reading.taken c.args.response.now) c.tree_answer_of.ensures
+    told_json c.args.form c.tree_answer_of.result (Some (request_of c.args.call.now)) reading.answer
+    (take reading.taken c.args.response.now) c.tree_answer_of.ensures

@@ -8,5 +8,6 @@ returns c =
     let shown = c.show_failure-ending.ensures in
     error_told c.show_failure-ending.result c.args.operation c.args.error.now c.args.first.now c.args.line.now
     c.show_failure-ending.new.line c.as_str.ensures.utf8 c.as_str-2.ensures.utf8
-    (c.lines_are_json.ensures.error Plain (error_to c.args.operation c.args.error.now c.args.first.now) c.args.first.now)
+    (c.lines_are_json.ensures.error Plain (error_to c.args.operation c.args.error.now c.args.first.now)
+    c.args.first.now)
     shown.shown shown.ending shown.memory
