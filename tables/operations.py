@@ -410,7 +410,7 @@ def operation_files(crate, operations, variants):
         f"        Operation::{variant} => {f'Some({name}())' if name else 'None'}," for variant, name in names
     ]
     yield (
-        f"{crate}/src/operation_row.rt",
+        f"{crate}/src/by_operation.rt",
         ROWS_SOURCE.format(
             imports=ghost_uses(
                 "Rattle.kmip_rows.specs.Operations", [*(name for _, name in names if name), "row_of"]

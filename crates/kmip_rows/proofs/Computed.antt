@@ -2,6 +2,7 @@
 use Rattle.std.specs.Prelude.{◌≡◌, true}
 use Rattle.std.proofs.Common.{refl}
 use Rattle.kmip_enums.specs.Operations.{operation_variants}
+use Rattle.kmip_request_objects.specs.Tables.{attribute, template_attribute, key_wrapping_specification, revocation_reason}
 use Rattle.kmip_request.specs.Tables.{request_payloads}
 use Rattle.kmip_response.specs.Tables.{response_payloads}
 use Rattle.kmip_rows.specs.Structures.{structures}
@@ -18,7 +19,7 @@ unfolding structures kinds
 structures_hold = refl
 
 pub requests_hold : are_payloads other_requests (λ row. row.request) request_payloads ≡ true
-unfolding kinds
+unfolding kinds attribute template_attribute key_wrapping_specification revocation_reason
 requests_hold = refl
 
 pub responses_hold :

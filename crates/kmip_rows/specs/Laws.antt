@@ -1,12 +1,12 @@
 -- What holds of the tables as a whole.
-use Rattle.std.specs.Prelude.{ℕ, ◌==◌, Bool, true, false, ◌&&◌, not, List, [], ◌∷◌, Option, Some, None}
+use Rattle.std.specs.Prelude.{◌==◌, Bool, true, false, ◌&&◌, not, List, [], ◌∷◌, Option, Some, None}
 use Rattle.kmip_enums.specs.Operations.{operation_line}
 use Rattle.kmip_enums.specs.declared.operation.Operation.{Operation}
 use Rattle.kmip_rows.specs.declared.rows.Place.{Place}
 use Rattle.kmip_rows.specs.declared.rows.Place.TheVariants.{Tag, Object}
 use Rattle.kmip_rows.specs.declared.rows.Kind.{Kind}
 use Rattle.kmip_rows.specs.declared.rows.Kind.TheVariants as kinds_of
-use Rattle.kmip_rows.specs.Rows.{Field, Row, Structure, TagKind, Response, of_fields, of_the_operation, structure_in, kind_in}
+use Rattle.kmip_rows.specs.Rows.{Field, Row, Structure, Response, of_fields, of_the_operation, structure_in, kind_in}
 use Rattle.kmip_rows.specs.Operations.{row_of}
 use Rattle.kmip_rows.specs.Structures.{structures}
 use Rattle.kmip_rows.specs.Kinds.{kinds}
@@ -36,9 +36,9 @@ is_of_structures kinds_of.Structure = true
 is_of_structures _ = false
 
 -- there is a structure exactly where the kind says so
-abbrev pub is_told_by : Option Structure → Option TagKind → Bool
-is_told_by (Some its) (Some kind) = is_of_structures kind.kind
-is_told_by None (Some kind) = not (is_of_structures kind.kind)
+abbrev pub is_told_by : Option Structure → Option Kind → Bool
+is_told_by (Some its) (Some kind) = is_of_structures kind
+is_told_by None (Some kind) = not (is_of_structures kind)
 is_told_by its None = false
 
 -- a field's tag has a kind, and where that is a structure, its fields

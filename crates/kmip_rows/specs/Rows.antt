@@ -1,5 +1,5 @@
 -- What an operation's payloads have, as rows.
-use Rattle.std.specs.Prelude.{ℕ, ◌==◌, Bool, true, false, List, map, find, Option}
+use Rattle.std.specs.Prelude.{ℕ, ◌==◌, Bool, true, false, List, [], ◌∷◌, map, find, Option, Some, None, if◌then◌else◌}
 use Rattle.kmip_enums.specs.declared.operation.Operation.{Operation}
 use Rattle.kmip_rows.specs.declared.rows.Mark.{Mark}
 use Rattle.kmip_rows.specs.declared.rows.Place.{Place}
@@ -94,9 +94,10 @@ row_view x = row x.operation x.since x.effect (map field_view x.request.now)
 abbrev pub kind_view : KindRow → TagKind
 kind_view x = tag_kind x.tag x.kind
 
--- the structure with this tag, and the tag with what stands under it
+-- the structure with this tag, and what stands under a tag
 abbrev pub structure_in : List Structure → ℕ → Option Structure
 structure_in structures tag = find (λ first. first.tag == tag) structures
 
-abbrev pub kind_in : List TagKind → ℕ → Option TagKind
-kind_in kinds tag = find (λ first. first.tag == tag) kinds
+abbrev pub kind_in : List TagKind → ℕ → Option Kind
+kind_in [] tag = None
+kind_in (first ∷ rest) tag = if first.tag == tag then Some first.kind else kind_in rest tag

@@ -1,5 +1,5 @@
 -- The typed tables of kmip_request and kmip_response beside the rows of their operations.
-use Rattle.std.specs.Prelude.{ℕ, ◌==◌, Bool, true, false, ◌&&◌, not, List, [], ◌∷◌, Option, Some, None, find, codes, bytes_eq}
+use Rattle.std.specs.Prelude.{ℕ, ◌==◌, Bool, true, false, ◌&&◌, List, [], ◌∷◌, Option, Some, None, find, codes, bytes_eq}
 use Rattle.kmip_wire.specs.declared.kind.Kind.TheVariants as types
 use Rattle.kmip_shape.specs.Shape as shapes
 use Rattle.kmip_shape.specs.Enumerations.{variant_at}
@@ -11,7 +11,7 @@ use Rattle.kmip_rows.specs.declared.rows.Mark.{Mark}
 use Rattle.kmip_rows.specs.declared.rows.Mark.TheVariants as marks
 use Rattle.kmip_rows.specs.declared.rows.Kind.{Kind}
 use Rattle.kmip_rows.specs.declared.rows.Kind.TheVariants as kinds_of
-use Rattle.kmip_rows.specs.Rows.{Field, Row, TagKind, kind_in}
+use Rattle.kmip_rows.specs.Rows.{Field, Row, kind_in}
 use Rattle.kmip_rows.specs.Operations.{row_of}
 use Rattle.kmip_rows.specs.Kinds.{kinds}
 
@@ -83,9 +83,9 @@ is_of_kind kinds_of.Name (shapes.OneOf entries) = true
 is_of_kind kinds_of.Structure (shapes.Rows rows) = true
 is_of_kind _ _ = false
 
-abbrev pub has_kind : Option TagKind → shapes.Shape → Bool
+abbrev pub has_kind : Option Kind → shapes.Shape → Bool
 has_kind None shape = false
-has_kind (Some kind) shape = is_of_kind kind.kind shape
+has_kind (Some kind) shape = is_of_kind kind shape
 
 -- what stands at a place is of the kind of its tag; which object it is, the typed table says
 abbrev pub is_told : Place → shapes.Shape → Bool

@@ -43,15 +43,14 @@ fn structure_in(structures: &'static [StructureRow], tag: u32) -> Option<&'stati
     }
 }
 
-fn kind_in(kinds: &'static [KindRow], tag: u32) -> Option<&'static KindRow>
-    ensures { option_map (λ kind. kind_view kind.now) result ≡
-        kind_in (map kind_view kinds.now) tag }
+fn kind_in(kinds: &[KindRow], tag: u32) -> Option<Kind>
+    ensures { result ≡ kind_in (map kind_view kinds.now) tag }
 {
     match kinds {
         [] => None,
         [first, rest @ ..] => {
             if first.tag == tag {
-                Some(first)
+                Some(first.kind)
             } else {
                 kind_in(rest, tag)
             }
@@ -69,10 +68,7 @@ pub fn structure_row(tag: u32) -> Option<&'static StructureRow>
 
 /// What stands under a tag: `None` where the tables do not say.
 pub fn kind_of(tag: u32) -> Option<Kind>
-    ensures { result ≡ option_map (λ kind. kind.kind) (kind_in kinds tag) }
+    ensures { result ≡ kind_in kinds tag }
 {
-    match kind_in(kind_rows(), tag) {
-        Some(row) => Some(row.kind),
-        None => None,
-    }
+    kind_in(kind_rows(), tag)
 }

@@ -2,17 +2,17 @@
 //! in order, with how often each stands and since which version of KMIP.
 #![tactic(auto)]
 
+mod by_operation;
 mod find;
 mod kinds;
 mod laws;
-mod operation_row;
 mod operations;
 mod rows;
 mod structures;
 
+pub use by_operation::operation_row;
 pub use find::{kind_of, object_tags, structure_row};
 pub use laws::{tables_stand, typed_requests, typed_responses};
-pub use operation_row::operation_row;
 pub use rows::{
     Effect, FieldRow, Kind, KindRow, Mark, OperationRow, Place, ResponseRow, StructureRow,
 };
