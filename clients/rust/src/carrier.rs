@@ -353,18 +353,19 @@ impl<T: Read + Write> Carrier<T> {
         }
     }
 
-    /// The response; the record is told of it, and of the request without its credential and its
-    /// Unique Batch Item ID.
-    pub(crate) fn recorded(
+    /// Tells the record of a response that came, and of the request without its credential and its
+    /// Unique Batch Item ID; or gives the error of that.
+    pub(crate) fn record(
         &mut self,
-        response: Result<Vec<u8>>,
+        response: &Result<Vec<u8>>,
         request: impl FnOnce() -> Result<Vec<u8>>,
-    ) -> Result<Vec<u8>> {
-        let response = response?;
-        if let Some(listener) = &mut self.record {
-            listener(&record::line_of(&request()?, &response));
-        }
-        Ok(response)
+    ) -> Option<io::Error> {
+        let (listener, response) = (self.record.as_mut()?, response.as_ref().ok()?);
+        let request = match request() {
+            Ok(request) => request,
+            Err(error) => return Some(io::Error::new(ErrorKind::Other, error)),
+        };
+        listener(&record::line_of(&request, response)).err()
     }
 
     /// The three steps that nothing checks: these bytes are sent, 8 are read, and then so many.

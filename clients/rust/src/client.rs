@@ -8,10 +8,12 @@ use crate::library::{self, NoRequest, Operation, Status};
 use crate::log::{Begun, Event};
 use crate::options::Given;
 use crate::process::Process;
+use crate::record;
 use crate::servers::{Server, Servers};
 use crate::word::{with_options, Word, Words};
 use std::fmt::{self, Debug, Formatter};
 use std::io::{self, Read, Write};
+use std::path::Path;
 use std::sync::{Arc, Mutex, MutexGuard, PoisonError};
 
 /// The most bytes of a response where no limit is given: 1 MiB.
@@ -136,9 +138,28 @@ impl<T: Read + Write> ClientBuilder<T> {
     /// which `kmip_run replay` answers again; or, where it has no such call, `message REQUEST
     /// RESPONSE`. Keys stand in it where they were sent or given. It is called within a call of the
     /// client, which it may not use; what it cannot write is its own to tell.
-    pub fn with_record(mut self, listener: impl FnMut(&str) + Send + 'static) -> Self {
-        self.carrier.record = Some(Box::new(listener));
+    pub fn with_record(mut self, mut listener: impl FnMut(&str) + Send + 'static) -> Self {
+        self.carrier.record = Some(Box::new(move |line| {
+            listener(line);
+            Ok(())
+        }));
         self
+    }
+
+    /// The same, with a file, to which each line is added at its end. Other processes and threads may
+    /// add theirs at the same time: it is locked for the one write alone, and not while a server is
+    /// waited for. Where a line cannot be written whole, the file is as it was, and the call is a
+    /// `NotRecorded`, whose [`answers`](Error::answers) have what the server answered.
+    ///
+    /// # Errors
+    /// `ConfigurationError`: the file cannot be opened
+    pub fn with_record_file(mut self, path: impl AsRef<Path>) -> Result<Self> {
+        let path = path.as_ref();
+        let record = record::to_file(path);
+        let record = record
+            .map_err(|error| Error::configuration(format!("record {}: {error}", path.display())))?;
+        self.carrier.record = Some(record);
+        Ok(self)
     }
 
     /// The client.
@@ -303,10 +324,13 @@ impl<T: Read + Write> Client<T> {
             let response =
                 carrier.response_again(call, &request, self.limit, asked.is_changeless());
             let read = response.as_ref().map_or(0, Vec::len);
-            let response = carrier.recorded(response, || plain.request(None));
+            let unwritten = carrier.record(&response, || plain.request(None));
             let answer = response.and_then(|response| asked.read(response));
             carrier.tell_end(call, asked.name(), answer.as_ref().err(), (request.len(), read));
-            answer
+            match unwritten {
+                None => answer,
+                Some(error) => Err(Error::not_recorded(error, vec![answer])),
+            }
         })
     }
 
@@ -332,11 +356,18 @@ impl<T: Read + Write> Client<T> {
             let is_changeless = calls.iter().all(Asked::is_changeless);
             let response = carrier.response_again(call, &request, self.limit, is_changeless);
             let read = response.as_ref().map_or(0, Vec::len);
-            let response = carrier.recorded(response, || message(None));
+            let unwritten = carrier.record(&response, || message(None));
             let responses = response.and_then(|response| responses_of(&response, ids));
             let name = format!("a batch of {}", calls.len());
             carrier.tell_end(call, &name, responses.as_ref().err(), (request.len(), read));
-            let answers: Vec<_> = calls.iter().zip(responses?).map(answer_of_batch).collect();
+            let answers = match responses {
+                Ok(responses) => calls.iter().zip(responses).map(answer_of_batch).collect(),
+                Err(error) if unwritten.is_none() => return Err(error),
+                Err(error) => vec![Err(error)],
+            };
+            if let Some(error) = unwritten {
+                return Err(Error::not_recorded(error, answers));
+            }
             if answers.iter().any(|answer| matches!(answer, Err(error) if error.is_lost())) {
                 carrier.stream = None;
             }

@@ -2,12 +2,12 @@
 use crate::carrier::Carrier;
 use crate::client::ClientBuilder;
 use crate::error::{Error, Result};
+use crate::identity::{self, Pem};
 use crate::race::Race;
 use crate::servers::{Order, Server, Servers};
 use crate::time::Time;
 use crate::tls::TlsStream;
 use openssl::error::ErrorStack;
-use openssl::pkey::{PKey, Private};
 use openssl::ssl::{
     Ssl, SslContext, SslContextBuilder, SslMethod, SslMode, SslOptions, SslRef, SslVerifyMode,
     SslVersion,
@@ -16,7 +16,7 @@ use openssl::x509::verify::{X509CheckFlags, X509VerifyFlags};
 use std::fmt::{self, Debug, Formatter};
 use std::io;
 use std::net::{IpAddr, TcpStream};
-use std::path::{Path, PathBuf};
+use std::path::PathBuf;
 use std::sync::Arc;
 use std::time::Duration;
 
@@ -37,8 +37,9 @@ pub struct TlsConnector {
     /// None: they are no list.
     servers: Result<Arc<Servers>>,
     name: Option<String>,
-    identity: Option<(PathBuf, PathBuf)>,
-    authority: Option<PathBuf>,
+    identity: Option<(Pem, Pem)>,
+    authority: Option<Pem>,
+    context: Option<SslContext>,
     passphrase: Option<String>,
     timeout: Option<Duration>,
     reconnects: bool,
@@ -102,6 +103,7 @@ impl TlsConnector {
             name: None,
             identity: None,
             authority: None,
+            context: None,
             passphrase: None,
             timeout: Some(DEFAULT_TIMEOUT),
             max_age: None,
@@ -138,12 +140,37 @@ impl TlsConnector {
         certificate: impl Into<PathBuf>,
         key: impl Into<PathBuf>,
     ) -> Self {
-        TlsConnector { identity: Some((certificate.into(), key.into())), ..self.anew() }
+        let (certificate, key) = (Pem::File(certificate.into()), Pem::File(key.into()));
+        TlsConnector { identity: Some((certificate, key)), ..self.anew() }
+    }
+
+    /// The same in memory, as texts of PEM. They are not overwritten when they are let go.
+    pub fn with_certificate_pem(
+        self,
+        certificate: impl AsRef<[u8]>,
+        key: impl AsRef<[u8]>,
+    ) -> Self {
+        let pem = |text: &[u8]| Pem::Memory(text.into());
+        let identity = Some((pem(certificate.as_ref()), pem(key.as_ref())));
+        TlsConnector { identity, ..self.anew() }
     }
 
     /// The PEM file of the authority of the server's certificate; no other is trusted.
     pub fn with_authority(self, authority: impl Into<PathBuf>) -> Self {
-        TlsConnector { authority: Some(authority.into()), ..self.anew() }
+        TlsConnector { authority: Some(Pem::File(authority.into())), ..self.anew() }
+    }
+
+    /// The same in memory, as a text of PEM.
+    pub fn with_authority_pem(self, authority: impl AsRef<[u8]>) -> Self {
+        let authority = Some(Pem::Memory(authority.as_ref().into()));
+        TlsConnector { authority, ..self.anew() }
+    }
+
+    /// A context in the place of certificate, authority and passphrase, as for a key in hardware or
+    /// lists of revoked certificates. Nothing of it is changed, and each connection has the deadline,
+    /// the name and the check after the handshake that [`TlsStream::from_ssl`] has.
+    pub fn with_context(self, context: SslContext) -> Self {
+        TlsConnector { context: Some(context), ..self.anew() }
     }
 
     /// The passphrase of a private key that is encrypted; no terminal is asked.
@@ -179,7 +206,8 @@ impl TlsConnector {
         }
         let name =
             self.name.as_deref().map(|name| name_of(name).map(str::to_string)).transpose()?;
-        let way = Way { context: self.context()?, name };
+        let (context, is_callers) = (self.context()?, self.context.is_some());
+        let way = Way { context, is_callers, name };
         let open = move |server: &Server, time| {
             let stream = way.open(server, time);
             stream.map_err(|error| Error::connect_of(error.to_string(), error))
@@ -190,34 +218,18 @@ impl TlsConnector {
     }
 
     fn context(&self) -> Result<SslContext> {
+        if let Some(context) = &self.context {
+            let has_other = self.identity.is_some() || self.authority.is_some();
+            if has_other || self.passphrase.is_some() {
+                let text = "a context stands in the place of certificate, authority and passphrase";
+                return Err(Error::configuration(text));
+            }
+            return Ok(context.clone());
+        }
         let missing = |what| Error::configuration(format!("{what} is not given"));
         let (certificate, key) = self.identity.as_ref().ok_or_else(|| missing("certificate"))?;
         let authority = self.authority.as_ref().ok_or_else(|| missing("authority"))?;
-        let chain = file("certificate", certificate)?;
-        let pem = file("key", key)?;
-        let trusted = file("authority", authority)?;
-        for (what, path, pem) in
-            [("certificate", certificate, &chain), ("authority", authority, &trusted)]
-        {
-            is_plain(what, path, pem)?;
-        }
-        holds("certificate", certificate, &chain, "certificate")?;
-        holds("key", key, &pem, "private key")?;
-        let private_key = private_key(key, &pem, self.passphrase.as_deref())?;
-        let mut context = strict_context().map_err(|error| failed("OpenSSL", &error))?;
-        context
-            .set_ca_file(authority)
-            .map_err(|error| failed(&format!("authority {}", authority.display()), &error))?;
-        context
-            .set_certificate_chain_file(certificate)
-            .map_err(|error| failed(&format!("certificate {}", certificate.display()), &error))?;
-        context.set_private_key(&private_key).and_then(|()| context.check_private_key()).map_err(
-            |error| {
-                let (certificate, key) = (certificate.display(), key.display());
-                failed(&format!("certificate {certificate}, key {key}"), &error)
-            },
-        )?;
-        Ok(context.build())
+        identity::context_of((certificate, key), authority, self.passphrase.as_deref())
     }
 }
 
@@ -242,6 +254,8 @@ pub(crate) fn name_of(host: &str) -> Result<&str> {
 /// What opens connections: with no file read again, and no passphrase kept.
 struct Way {
     context: SslContext,
+    /// Whether the context is the caller's.
+    is_callers: bool,
     /// None: that of the server's host.
     name: Option<String>,
 }
@@ -269,41 +283,8 @@ impl Way {
         stream.set_nodelay(true)?;
         let mut ssl = Ssl::new(&self.context)?;
         check_name(&mut ssl, name)?;
-        TlsStream::connect(ssl, stream, time, name, false)
+        TlsStream::connect(ssl, stream, time, name, self.is_callers)
     }
-}
-
-/// The bytes of a file.
-fn file(what: &str, path: &Path) -> Result<Vec<u8>> {
-    std::fs::read(path)
-        .map_err(|error| Error::connect_of(format!("{what} {}: {error}", path.display()), error))
-}
-
-/// A file of PEM has a block whose label ends so.
-fn holds(what: &str, path: &Path, pem: &[u8], label: &str) -> Result<()> {
-    let end = format!("{}-----", label.to_ascii_uppercase());
-    let is_begin = |line: &str| line.starts_with("-----BEGIN ") && line.trim_end().ends_with(&end);
-    if String::from_utf8_lossy(pem).lines().any(is_begin) {
-        return Ok(());
-    }
-    Err(Error::connect(format!("{what} {}: there is no {label} in PEM", path.display())))
-}
-
-/// No block of a file of PEM is encrypted: OpenSSL would ask the terminal for its passphrase.
-fn is_plain(what: &str, path: &Path, pem: &[u8]) -> Result<()> {
-    let is_encrypted = |line: &str| line.starts_with("Proc-Type:") && line.contains("ENCRYPTED");
-    // The key may stand in the file of the certificate, and is read from its own.
-    let text = String::from_utf8_lossy(pem);
-    let certificates = text.split("-----BEGIN ").filter(|block| block.contains("CERTIFICATE-----"));
-    if certificates.flat_map(str::lines).any(is_encrypted) {
-        let path = path.display();
-        return Err(Error::connect(format!("{what} {path}: a block of it is encrypted")));
-    }
-    Ok(())
-}
-
-fn failed(what: &str, errors: &ErrorStack) -> Error {
-    Error::connect(format!("{what}: {}", reasons(errors)))
 }
 
 /// What OpenSSL says, without the places in its sources.
@@ -313,27 +294,6 @@ pub(crate) fn reasons(errors: &ErrorStack) -> String {
         return errors.to_string();
     }
     reasons.join(", ")
-}
-
-fn private_key(path: &Path, pem: &[u8], passphrase: Option<&str>) -> Result<PKey<Private>> {
-    let mut is_encrypted = false;
-    // Without this the terminal is asked.
-    let key = PKey::private_key_from_pem_callback(pem, |room| {
-        is_encrypted = true;
-        let passphrase = passphrase.unwrap_or("").as_bytes();
-        let room = room.get_mut(..passphrase.len()).ok_or_else(ErrorStack::get)?;
-        room.copy_from_slice(passphrase);
-        Ok(passphrase.len())
-    });
-    key.map_err(|errors| {
-        let path = path.display();
-        let why = match passphrase {
-            _ if !is_encrypted => return failed(&format!("key {path}"), &errors),
-            None => "no passphrase is given",
-            Some(_) => "this is not its passphrase",
-        };
-        Error::connect(format!("key {path}: it is encrypted, and {why}"))
-    })
 }
 
 /// A context that trusts nobody yet: not even the authorities of the system.

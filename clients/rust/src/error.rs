@@ -1,4 +1,5 @@
 //! Why a client has no answer.
+use crate::answer::Answer;
 use crate::json::Json;
 use std::fmt::{self, Display, Formatter, Write};
 use std::io;
@@ -38,6 +39,8 @@ pub struct Details {
     sent: bool,
     source: Option<Arc<io::Error>>,
     said: Option<Box<Said>>,
+    /// What was answered, where that was not recorded.
+    answers: Arc<Vec<Result<Answer>>>,
 }
 
 /// What a server said.
@@ -55,7 +58,8 @@ struct Said {
 impl PartialEq for Details {
     fn eq(&self, other: &Details) -> bool {
         let all = |details: &Details| (details.lost, details.sent, details.io_kind());
-        all(self) == all(other) && self.text == other.text && self.said == other.said
+        let is_same = self.text == other.text && self.said == other.said;
+        is_same && all(self) == all(other) && self.answers == other.answers
     }
 }
 
@@ -63,7 +67,8 @@ impl Eq for Details {}
 
 impl Details {
     fn new(text: impl Into<String>, lost: bool) -> Details {
-        Details { text: text.into(), lost, sent: true, source: None, said: None }
+        let (text, answers) = (text.into(), Arc::default());
+        Details { text, lost, sent: true, source: None, said: None, answers }
     }
 
     /// Those of an error before anything was sent.
@@ -167,6 +172,9 @@ pub enum Error {
     NotDone(Details),
     /// The server has undone this call of a batch, since another one failed.
     Undone(Details),
+    /// The call was made, and its line was not added to the file of the record. What was answered is
+    /// in [`answers`](Error::answers).
+    NotRecorded(Details),
     /// Memory ran out. The connection is closed.
     OutOfMemory(Details),
     /// An error of another kind. The connection is closed where it [`is_lost`](Error::is_lost).
@@ -265,6 +273,14 @@ impl Error {
         Error::Undone(Details::new("the server has undone this call of the batch", false))
     }
 
+    /// That of a call which was answered like this, or of a batch.
+    pub(crate) fn not_recorded(error: io::Error, answers: Vec<Result<Answer>>) -> Error {
+        let is_lost = |answer: &Result<Answer>| answer.as_ref().is_err_and(Error::is_lost);
+        let lost = answers.iter().any(is_lost);
+        let details = Details::of_stream(error.to_string(), error, true);
+        Error::NotRecorded(Details { lost, answers: Arc::new(answers), ..details })
+    }
+
     pub(crate) fn memory() -> Error {
         Error::OutOfMemory(Details::new("out of memory", true))
     }
@@ -320,6 +336,7 @@ impl Error {
             Error::ItemNotFound(details) => ("ItemNotFound", details),
             Error::NotDone(details) => ("NotDone", details),
             Error::Undone(details) => ("Undone", details),
+            Error::NotRecorded(details) => ("NotRecorded", details),
             Error::OutOfMemory(details) => ("OutOfMemory", details),
             Error::Unknown(details) => ("Unknown", details),
         }
@@ -341,6 +358,7 @@ impl Error {
             | Error::ItemNotFound(details)
             | Error::NotDone(details)
             | Error::Undone(details)
+            | Error::NotRecorded(details)
             | Error::OutOfMemory(details)
             | Error::Unknown(details) => details,
         }
@@ -398,6 +416,12 @@ impl Error {
     /// made again.
     pub fn was_sent(&self) -> bool {
         self.details().sent
+    }
+
+    /// Of a `NotRecorded` what the call would have given, or each call of a batch; of any other error
+    /// nothing.
+    pub fn answers(&self) -> &[Result<Answer>] {
+        &self.details().answers
     }
 
     /// Whether the stream failed or ended.

@@ -20,12 +20,17 @@ const HOW_NAMED: c_uint = 0x4 | 0x20;
 /// OpenSSL's `SSL_CTRL_GET_VERIFY_CERT_STORE`, which OpenSSL 1.1.1 answers with nothing.
 const GET_VERIFY_STORE: c_int = 137;
 
+/// OpenSSL's `SSL_OP_NO_RENEGOTIATION | SSL_OP_NO_COMPRESSION`.
+const NEITHER: u64 = 1 << 30 | 1 << 17;
+
 type Verify = Option<unsafe extern "C" fn(*mut c_void) -> c_int>;
 type Callback = unsafe extern "C" fn(c_int, *mut c_void) -> c_int;
 
 // What the crate openssl, which links the library, does not have.
 extern "C" {
     fn SSL_ctrl(ssl: *mut c_void, what: c_int, number: c_long, into: *mut c_void) -> c_long;
+    fn SSL_set_options(ssl: *mut c_void, options: u64) -> u64;
+    fn SSL_set_post_handshake_auth(ssl: *mut c_void, is_wanted: c_int);
     fn SSL_get_SSL_CTX(ssl: *const c_void) -> *mut c_void;
     fn SSL_CTX_get_cert_store(context: *const c_void) -> *mut c_void;
     fn SSL_get_peer_cert_chain(ssl: *const c_void) -> *mut c_void;
@@ -57,6 +62,17 @@ extern "C" {
         peer: *mut *mut c_char,
     ) -> c_int;
     fn X509_check_ip_asc(certificate: *mut c_void, address: *const c_char, flags: c_uint) -> c_int;
+}
+
+/// What holds of each connection, whatever its context says: no compression, no second handshake, and
+/// nobody is asked later who they are, so that no certificate is refused after a request was read.
+pub(crate) fn insist(ssl: &mut SslRef) {
+    let ssl = ssl.as_ptr().cast();
+    // Safety: the connection is there.
+    unsafe {
+        SSL_set_options(ssl, NEITHER);
+        SSL_set_post_handshake_auth(ssl, 0);
+    }
 }
 
 /// Whether the handshake is one by which it is known who the server is, and what is sent is for it

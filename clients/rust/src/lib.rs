@@ -37,6 +37,8 @@ mod client;
 #[cfg(feature = "openssl")]
 mod connector;
 mod error;
+#[cfg(feature = "openssl")]
+mod identity;
 mod item;
 mod json;
 mod keys;

@@ -35,6 +35,15 @@ pub struct Event<'a> {
     /// How long the call has taken until now.
     pub elapsed: Duration,
     text: String,
+    response: Option<String>,
+}
+
+impl Event<'_> {
+    /// The skeleton of a response that is no answer: the tags, types and nesting of its items, and the
+    /// numbers of its enumerations; no value, and nothing that the server said.
+    pub fn response(&self) -> Option<&str> {
+        self.response.as_deref()
+    }
 }
 
 impl Display for Event<'_> {
@@ -111,11 +120,15 @@ impl Log {
         trace(call, kind, error, Some(server).filter(|name| !name.is_empty()));
         let front = if server.is_empty() { String::new() } else { format!("{server}: ") };
         let (operation, text) = (call.operation, front + text);
+        let response = error.and_then(|error| error.details().response()).map(str::to_string);
         let (error, elapsed) = (error.map(Error::kind), call.begun.elapsed());
         match &mut self.listener {
-            Some(listener) => listener(&Event { kind, operation, error, elapsed, text }),
+            Some(listener) => {
+                listener(&Event { kind, operation, error, elapsed, text, response });
+            }
             None if operation == CONNECT => {
-                self.untold.push(Event { kind, operation: CONNECT, error, elapsed, text });
+                let operation = CONNECT;
+                self.untold.push(Event { kind, operation, error, elapsed, text, response });
             }
             None => {}
         }

@@ -26,13 +26,15 @@ pub(crate) struct Race {
 
 /// Why addresses failed.
 #[derive(Default)]
-pub(crate) struct Failed {
+struct Failed {
     texts: Vec<String>,
     last: Option<io::Error>,
+    /// Whether one was there, and its handshake failed.
+    is_reached: bool,
 }
 
 impl Failed {
-    pub(crate) fn add(&mut self, error: io::Error) {
+    fn add(&mut self, error: io::Error) {
         let text = error.to_string();
         if !self.texts.contains(&text) {
             self.texts.push(text);
@@ -69,9 +71,21 @@ impl Race {
         self.waiting.len() + self.under_way
     }
 
-    /// Of the one that was there the handshake has failed: the next begins at once.
+    /// Of the one that was there the handshake has failed, of which more is known than of those that
+    /// were not reached. The next begins at once.
     pub(crate) fn fails(&mut self, error: io::Error) {
+        if !self.failed.is_reached {
+            self.failed = Failed { is_reached: true, ..Failed::default() };
+        }
         self.failed.add(error);
+        self.next = Instant::now();
+    }
+
+    /// One was not reached.
+    fn is_not_there(&mut self, error: io::Error) {
+        if !self.failed.is_reached {
+            self.failed.add(error);
+        }
         self.next = Instant::now();
     }
 
@@ -84,13 +98,13 @@ impl Race {
             let reached = match self.step(time) {
                 Ok(reached) => reached,
                 Err(late) => {
-                    self.failed.add(late);
+                    self.is_not_there(late);
                     break;
                 }
             };
             match reached {
                 Some(Ok(stream)) => return Ok(stream),
-                Some(Err(error)) => self.fails(error),
+                Some(Err(error)) => self.is_not_there(error),
                 None => {}
             }
         }
@@ -245,8 +259,8 @@ mod tests {
         race.fails(io::Error::new(ErrorKind::Other, "TLS"));
         assert_eq!(race.next(&time(100)).unwrap().peer_addr().unwrap(), address);
         race.fails(io::Error::new(ErrorKind::Other, "TLS"));
-        let error = race.next(&time(100)).unwrap_err().to_string();
-        assert_eq!(error, "Connection refused (os error 111), TLS");
+        // More is known of the one that was reached.
+        assert_eq!(race.next(&time(100)).unwrap_err().to_string(), "TLS");
     }
 
     #[test]

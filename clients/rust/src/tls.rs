@@ -161,12 +161,13 @@ impl TlsStream {
     }
 
     pub(crate) fn connect(
-        ssl: Ssl,
+        mut ssl: Ssl,
         stream: TcpStream,
         time: Time,
         name: &str,
         is_callers: bool,
     ) -> io::Result<TlsStream> {
+        known::insist(&mut ssl);
         let (is_waiting, has_sent, has_ended) = (true, false, false);
         let timed = Timed { stream, time, part: None, is_waiting, has_sent, has_ended };
         let tls = ManuallyDrop::new(SslStream::new(ssl, timed)?);

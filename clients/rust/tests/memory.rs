@@ -1,10 +1,12 @@
-//! What the crate takes of memory for a response: no more than three times its length.
+//! What a response takes of memory: three times its length in the crate, which keeps that with the
+//! answer, and nine times for a while with what the library takes.
 mod ttlv;
 
 use metsuwan::ClientBuilder;
 use std::alloc::{GlobalAlloc, Layout, System};
 use std::io::{self, Cursor, Read, Write};
 use std::sync::atomic::{AtomicUsize, Ordering::Relaxed};
+use std::sync::Mutex;
 use ttlv::{bytes, enumeration, identifier, response, structure, text};
 
 static NOW: AtomicUsize = AtomicUsize::new(0);
@@ -29,6 +31,9 @@ unsafe impl GlobalAlloc for Counting {
 
 #[global_allocator]
 static ALLOCATOR: Counting = Counting;
+
+/// One test at a time counts.
+static ALONE: Mutex<()> = Mutex::new(());
 
 struct Answers<'a>(Cursor<&'a [u8]>);
 
@@ -59,15 +64,44 @@ fn taken(answer: &[u8], call: &str) -> usize {
     (MOST.load(Relaxed) - before) * 100 / answer.len()
 }
 
-#[test]
-fn a_response_takes_three_times_its_length() {
-    const MANY: usize = 3 << 20;
-    let key = structure(0x420045, &[bytes(0x420043, &vec![0xA5; MANY])]);
+/// Answers to get a key of so many bytes, and to query with such a text.
+fn answers(many: usize) -> [(Vec<u8>, &'static str); 2] {
+    let key = structure(0x420045, &[bytes(0x420043, &vec![0xA5; many])]);
     let block = structure(0x420040, &[enumeration(0x420042, 2), key]);
     let object = [enumeration(0x420057, 2), identifier("k"), structure(0x42008F, &[block])];
-    let vendor = text(0x42009D, &"x".repeat(MANY));
-    for (answer, call) in [(response(0x0A, &object), "get k"), (response(0x18, &[vendor]), "query")]
-    {
+    let vendor = text(0x42009D, &"x".repeat(many));
+    [(response(0x0A, &object), "get k"), (response(0x18, &[vendor]), "query")]
+}
+
+/// A number of kB that the system has of this process.
+#[cfg(target_os = "linux")]
+fn system_says(name: &str) -> usize {
+    let status = std::fs::read_to_string("/proc/self/status").unwrap();
+    let line = status.lines().find(|line| line.starts_with(name)).unwrap();
+    line.split_whitespace().nth(1).unwrap().parse().unwrap()
+}
+
+#[test]
+#[cfg(target_os = "linux")]
+fn the_system_counts_nine_times_its_length() {
+    let _alone = ALONE.lock();
+    for (answer, call) in answers(20 << 20) {
+        // The most that it has held is counted from here on.
+        if std::fs::write("/proc/self/clear_refs", "5").is_err() {
+            return; // it is not allowed here
+        }
+        let before = system_says("VmRSS:");
+        taken(&answer, call);
+        let hundredths = (system_says("VmHWM:") - before) * 1024 * 100 / answer.len();
+        println!("{call}: {hundredths} hundredths");
+        assert!(hundredths <= 900, "{call}: {hundredths} hundredths");
+    }
+}
+
+#[test]
+fn a_response_takes_three_times_its_length() {
+    let _alone = ALONE.lock();
+    for (answer, call) in answers(3 << 20) {
         let hundredths = taken(&answer, call);
         assert!(hundredths <= 305, "{call}: {hundredths} hundredths");
     }

@@ -270,3 +270,21 @@ fn the_log_tells_of_each_call_and_shows_no_value() {
         assert!(!all.contains(secret), "{all}");
     }
 }
+
+#[test]
+fn the_log_has_the_skeleton_of_what_is_no_answer() {
+    // Its signature is a text.
+    let no_answer = response(SIGN, &[identifier("k"), ttlv::text(0x4200C3, "walrus")]);
+    let (sent, seen) = (Sent::default(), Arc::new(Mutex::new(Vec::new())));
+    let log = Arc::clone(&seen);
+    let script = Script::new(&[answer(QUERY), Does::Answer(no_answer)], &sent);
+    let told = move |event: &Event<'_>| {
+        log.lock().unwrap().push(event.response().map(str::to_string));
+    };
+    let client = ClientBuilder::new(script).with_log(told).build();
+    client.query().unwrap();
+    client.sign("k", b"x").unwrap_err();
+    let seen = seen.lock().unwrap();
+    let skeleton = seen[1].as_deref().unwrap();
+    assert!(seen[0].is_none() && skeleton.starts_with("7B[") && !skeleton.contains("walrus"));
+}

@@ -3,10 +3,16 @@ mod script;
 mod ttlv;
 
 use metsuwan::library::{self, KmipWord};
-use metsuwan::{Client, ClientBuilder, Item, Word};
+use metsuwan::{Client, ClientBuilder, Error, Item, Word};
 use script::{Does, Script, Sent};
-use std::io::ErrorKind;
+use std::fs::{self, File, OpenOptions};
+use std::io::{ErrorKind, Write};
+use std::os::fd::AsRawFd;
+use std::os::raw::c_int;
+use std::path::{Path, PathBuf};
+use std::process::Command;
 use std::sync::{Arc, Mutex};
+use std::time::{Duration, Instant};
 use ttlv::{failure, identifier, response};
 
 /// The request to activate `k` (KMIP 1.0, 4.18), and with 15 that to archive it, as the standard has
@@ -94,4 +100,110 @@ fn what_is_refused_is_recorded_and_what_is_lost_is_not() {
         client.call("activate", &[Word::Text("k")]).unwrap_err();
         assert_eq!(seen.lock().unwrap().len(), count);
     }
+}
+
+extern "C" {
+    fn flock(file: c_int, how: c_int) -> c_int;
+}
+
+/// A file of this test, which is removed at its end.
+struct Temporary(PathBuf);
+
+impl Temporary {
+    fn new(name: &str) -> Temporary {
+        let name = format!("metsuwan-{}-{name}", std::process::id());
+        Temporary(std::env::temp_dir().join(name))
+    }
+
+    fn lines(&self) -> Vec<String> {
+        fs::read_to_string(&self.0).unwrap().lines().map(str::to_string).collect()
+    }
+}
+
+impl Drop for Temporary {
+    fn drop(&mut self) {
+        let _ = fs::remove_file(&self.0); // it may not have been made
+    }
+}
+
+/// A client whose record is this file.
+fn recording(path: &Path, does: &[Does]) -> Client<Script> {
+    let builder = ClientBuilder::new(Script::new(does, &Sent::default()));
+    builder.with_record_file(path).unwrap().build()
+}
+
+#[test]
+#[ignore = "it is run by `processes_add_their_lines_side_by_side`"]
+fn one_of_many() {
+    let Some(path) = std::env::var_os("METSUWAN_RECORD") else { return };
+    let client = recording(path.as_ref(), &vec![done(0x12); 20]);
+    for _ in 0..20 {
+        client.activate_key("k").unwrap();
+    }
+}
+
+#[test]
+fn processes_add_their_lines_side_by_side() {
+    let file = Temporary::new("many");
+    let begin = || {
+        let words = ["--exact", "one_of_many", "--include-ignored"];
+        let program = std::env::current_exe().unwrap();
+        Command::new(program).args(words).env("METSUWAN_RECORD", &file.0).spawn().unwrap()
+    };
+    let processes: Vec<_> = (0..50).map(|_| begin()).collect();
+    for mut process in processes {
+        assert!(process.wait().unwrap().success());
+    }
+    let lines = file.lines();
+    let wanted = format!("raw {} ", asks_for("12"));
+    assert_eq!(lines.len(), 1000);
+    assert!(lines.iter().all(|line| line.starts_with(&wanted) && line.len() == lines[0].len()));
+}
+
+#[test]
+fn a_line_that_was_torn_is_ended() {
+    let file = Temporary::new("torn");
+    fs::write(&file.0, "raw 42").unwrap();
+    recording(&file.0, &[done(0x12)]).activate_key("k").unwrap();
+    let lines = file.lines();
+    assert!(lines.len() == 2 && lines[0] == "raw 42" && lines[1].starts_with("raw 4200"));
+}
+
+#[test]
+fn what_is_not_recorded_is_answered() {
+    let full = Path::new("/dev/full");
+    let client = recording(full, &[done(0x12), Does::Answer(failure(0x12, 12, "no"))]);
+    let error = client.activate_key("k").unwrap_err();
+    assert_eq!(error.to_string(), "NotRecorded: No space left on device (os error 28)");
+    let [Ok(answer)] = error.answers() else { panic!("{error:?}") };
+    assert_eq!(answer.response(), response(0x12, &[identifier("k")]));
+    assert!(error.was_sent() && !error.is_lost() && client.is_open());
+    // So is a refusal, and each call of a batch.
+    let error = client.activate_key("k").unwrap_err();
+    assert!(matches!(error.answers(), [Err(Error::ServerError(_))]), "{error:?}");
+    let client = recording(full, &[Does::Answer(failure(0x12, 5, "no batches"))]);
+    let error = client.batch().call("activate", &[Word::Text("k")]).unwrap().send().unwrap_err();
+    assert!(matches!(error.answers(), [Err(Error::ServerError(_))]), "{error:?}");
+    let nowhere = ClientBuilder::new(Script::new(&[], &Sent::default()));
+    let error = nowhere.with_record_file("/none/of/it").unwrap_err();
+    let wanted = "ConfigurationError: record /none/of/it: No such file or directory (os error 2)";
+    assert_eq!(error.to_string(), wanted);
+    assert!(error.answers().is_empty());
+}
+
+#[test]
+fn a_lock_that_is_held_too_long_is_told() {
+    let file = Temporary::new("locked");
+    let client = recording(&file.0, &[done(0x12), done(0x12)]);
+    let other: File = OpenOptions::new().append(true).open(&file.0).unwrap();
+    // Safety: the descriptor is that of the file.
+    assert_eq!(unsafe { flock(other.as_raw_fd(), 2) }, 0);
+    let begun = Instant::now();
+    let error = client.activate_key("k").unwrap_err();
+    assert!(error.to_string().ends_with(": another process has it locked"), "{error}");
+    assert!(error.answers().len() == 1 && begun.elapsed() >= Duration::from_secs(5));
+    (&other).write_all(b"").unwrap();
+    drop(other);
+    client.activate_key("k").unwrap();
+    assert_eq!(file.lines().len(), 1);
 }

@@ -183,6 +183,88 @@ fn tls_that_the_caller_has_set_up() {
     is_lost(&client, &format!("RequestWriteError: {text}"));
 }
 
+/// A context as the caller has set it up.
+fn callers_context() -> SslContext {
+    let file = |name: &str| folder().join(name);
+    let mut context = SslContext::builder(SslMethod::tls_client()).unwrap();
+    context.set_ca_file(file("ca.pem")).unwrap();
+    context.set_certificate_chain_file(file("client.pem")).unwrap();
+    context.set_private_key_file(file("client.key"), SslFiletype::PEM).unwrap();
+    context.build()
+}
+
+#[test]
+#[ignore = "it needs the fake servers"]
+fn a_context_of_the_callers() {
+    // It looks at no certificate: that is done after the handshake.
+    let of = |fake: &str| {
+        let server = TlsConnector::new("localhost", port_of(fake));
+        server.with_context(callers_context()).with_timeout(Some(LONG))
+    };
+    let client = of("certificate").connect().unwrap().build();
+    assert_eq!(client.query().unwrap().vendor_identification.as_deref(), Some("alice"));
+    for (fake, wanted) in [
+        ("other/server", "the server's certificate: "),
+        ("wrong_host", ""),
+        ("refuses_early", "the server refused the certificate: unknown CA"),
+    ] {
+        let error = of(fake).connect().map(drop).unwrap_err();
+        assert!(matches!(error, Error::ConnectError(_)) && !error.was_sent(), "{error}");
+        assert!(error.to_string().contains(wanted), "{error}");
+    }
+    let error = of("unanswered").with_timeout(Some(Duration::from_secs(1))).connect().unwrap_err();
+    assert_eq!(error.details().io_kind(), Some(ErrorKind::TimedOut));
+    // It is opened again, and other servers are asked.
+    let client = of("end_after").with_reconnect(true).connect().unwrap().build();
+    for _ in 0..3 {
+        client.activate_key("k").unwrap();
+    }
+    let several = ["nobody", "good"].map(|fake| format!("localhost:{}", port_of(fake)));
+    let several = TlsConnector::of_servers(several).with_context(callers_context());
+    several.connect().unwrap().build().query().unwrap();
+    for both in [of("good").with_authority("ca.pem"), of("good").with_passphrase("")] {
+        let text = "a context stands in the place of certificate, authority and passphrase";
+        let error = both.connect().unwrap_err().to_string();
+        assert_eq!(error, format!("ConfigurationError: {text}"));
+    }
+}
+
+#[test]
+#[ignore = "it needs the fake servers"]
+fn an_identity_in_memory() {
+    let pem = |name: &str| std::fs::read(folder().join(name)).unwrap();
+    let of = |fake: &str, client: &str, authority: &[u8]| {
+        TlsConnector::new("localhost", port_of(fake))
+            .with_certificate_pem(pem(&format!("{client}.pem")), pem(&format!("{client}.key")))
+            .with_authority_pem(authority)
+            .with_timeout(Some(LONG))
+    };
+    let named = |connector: TlsConnector| {
+        connector.connect().map(|builder| builder.build().query().unwrap().vendor_identification)
+    };
+    let ca = pem("ca.pem");
+    assert_eq!(named(of("certificate", "client", &ca)).unwrap().as_deref(), Some("alice"));
+    // One of an authority between, whose certificate comes after it.
+    assert_eq!(named(of("certificate", "chained", &ca)).unwrap().as_deref(), Some("carol"));
+    let both = [pem("other/ca.pem"), ca.clone()].concat();
+    assert_eq!(named(of("certificate", "client", &both)).unwrap().as_deref(), Some("alice"));
+    let encrypted = of("certificate", "encrypted", &ca);
+    assert!(named(encrypted.clone().with_passphrase("geheim & co")).is_ok());
+    let fails = |connector: TlsConnector| named(connector).unwrap_err().to_string();
+    let text = "ConnectError: key in memory: it is encrypted, and no passphrase is given";
+    assert_eq!(fails(encrypted), text);
+    let wanted = "certificate verify failed: self-signed certificate in certificate chain";
+    let other = fails(of("good", "client", &pem("other/ca.pem")));
+    assert!(other == format!("ConnectError: {wanted}") || other.contains("issuer"), "{other}");
+    let text = "ConnectError: authority in memory: there is no certificate in PEM";
+    assert_eq!(fails(of("good", "client", b"none")), text);
+    let strange =
+        of("good", "client", &ca).with_certificate_pem(pem("client.pem"), pem("server.key"));
+    assert!(fails(strange).starts_with("ConnectError: certificate in memory, key in memory: "));
+    let shown = format!("{:?}", of("good", "client", &ca));
+    assert!(shown.contains("in memory") && !shown.contains("BEGIN"), "{shown}");
+}
+
 #[test]
 #[ignore = "it needs the fake servers"]
 fn names_are_alternative_ones() {
