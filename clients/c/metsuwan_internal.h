@@ -9,9 +9,11 @@
 
 #ifdef __GNUC__
 #define HIDDEN __attribute__((visibility("hidden")))
+#define NOT_INLINE __attribute__((noinline))
 #define PRINTS(text, first) __attribute__((format(printf, text, first)))
 #else
 #define HIDDEN
+#define NOT_INLINE
 #define PRINTS(text, first)
 #endif
 
@@ -367,7 +369,13 @@ typedef struct {
     int marks;
 } kmip_queue;
 HIDDEN void kmip_queue_take(kmip_queue *queue);
+
+/* It is the last that a call does: what the library and OpenSSL had on the stack is overwritten, too. */
 HIDDEN void kmip_queue_give_back(kmip_queue *queue);
+
+/* Overwrites the stack below the caller, as far down as calls of the library take it, and vector
+   registers: what was signed may stand there. */
+HIDDEN void kmip_clean_stack(void);
 
 /* The kind of the error that a line has, after a call with this status. */
 HIDDEN kmip_kind kmip_kind_of(const char *line, int status);

@@ -189,9 +189,9 @@ int kmip_connect(const kmip_settings *settings, kmip_client **client, char *erro
 }
 
 kmip_client *kmip_open(const kmip_settings *settings, char *error, size_t room) {
-    kmip_client *client;
-    (void)kmip_connect(settings, &client, error, room); /* the line says what the status does */
-    return client;
+    kmip_client *client = NULL;
+    int status = kmip_connect(settings, &client, error, room);
+    return status == KMIP_ANSWERED ? client : NULL;
 }
 
 void kmip_close(kmip_client *client) {
@@ -381,7 +381,8 @@ int32_t kmip_line_of_get(kmip_client *client) {
     return status;
 }
 
-int64_t kmip_value_of(const char *line, const char *path, bool hex, kmip_room *into) {
+/* The value in room that is made for it; or a negative number. */
+static int64_t value_of(const char *line, const char *path, bool hex, kmip_room *into) {
     if (!kmip_room_has(into, 256)) return -1;
     for (;;) {
         int64_t length = kmip_value(bytes_of(line), strlen(line), bytes_of(path), strlen(path), hex,
@@ -393,6 +394,12 @@ int64_t kmip_value_of(const char *line, const char *path, bool hex, kmip_room *i
         }
         if (!kmip_room_has(into, (size_t)length + 1)) return -1;
     }
+}
+
+int64_t kmip_value_of(const char *line, const char *path, bool hex, kmip_room *into) {
+    int64_t length = value_of(line, path, hex, into);
+    kmip_clean_stack();
+    return length;
 }
 
 int kmip_read_answer(kmip_client *client) {

@@ -69,6 +69,33 @@ void kmip_room_free(kmip_room *into) {
     into->room = 0;
 }
 
+/* Overwrites the vector registers, by which memory is copied: the dynamic linker saves them on the
+   stack at the first call of a function. */
+static void clean_registers(void) {
+#if defined __x86_64__ && defined __GNUC__
+#define CLEAN(number) "vpxord %%zmm" number ", %%zmm" number ", %%zmm" number "\n\t"
+    if (__builtin_cpu_supports("avx512f"))
+        __asm__ volatile(CLEAN("16") CLEAN("17") CLEAN("18") CLEAN("19") CLEAN("20") CLEAN("21")
+                             CLEAN("22") CLEAN("23") CLEAN("24") CLEAN("25") CLEAN("26") CLEAN("27")
+                                 CLEAN("28") CLEAN("29") CLEAN("30") CLEAN("31")::);
+    if (__builtin_cpu_supports("avx"))
+        __asm__ volatile("vzeroall" ::
+                             : "xmm0", "xmm1", "xmm2", "xmm3", "xmm4", "xmm5", "xmm6", "xmm7",
+                               "xmm8", "xmm9", "xmm10", "xmm11", "xmm12", "xmm13", "xmm14",
+                               "xmm15");
+#undef CLEAN
+#endif
+}
+
+/* How far down. */
+#define CLEANED 32768
+
+NOT_INLINE void kmip_clean_stack(void) {
+    uint8_t below[CLEANED];
+    OPENSSL_cleanse(below, sizeof below);
+    clean_registers();
+}
+
 char *kmip_copy_of(const char *text) {
     size_t size = strlen(text) + 1;
     char *made = malloc(size);
@@ -125,7 +152,7 @@ size_t kmip_write_character(const char *text, char into[8]) {
 
 void kmip_error_line(char *into, size_t room, const char *kind, const char *text) {
     static const char end[] = "\"}";
-    if (!into) room = 0;
+    if (!into) return;
     int front = snprintf(into, room, "{\"error\":\"%s\",\"text\":\"", kind);
     if (front < 0 || (size_t)front + sizeof end > room) {
         if (room > 0) *into = 0;
