@@ -268,6 +268,17 @@ HIDDEN void kmip_tell_call(kmip_client *client, const char *call);
    and the response; false where memory ran out. */
 HIDDEN bool kmip_tell_record(kmip_client *client);
 
+/* A client without a connection, as settings say; a null pointer, and why. */
+HIDDEN kmip_client *kmip_unopened(const kmip_settings *settings, char *error, size_t room);
+
+/* Opens another client like this one until this time (0: without end): KMIP_ANSWERED, or the status of
+   what went wrong, and why. */
+HIDDEN int kmip_open_like(const kmip_client *like, double end, kmip_client **into, char *error,
+                          size_t room);
+
+/* Overwrites and frees what a client has of its last call. */
+HIDDEN void kmip_forget_answer(kmip_client *client);
+
 /* Keeps what came of a call. After a status that loses the connection it is closed. */
 HIDDEN int kmip_ends_as(kmip_client *client, int status);
 

@@ -81,12 +81,7 @@ static void free_client(kmip_client *client) {
         SSL_CTX_free(client->context);
         kmip_servers_leave(client->servers);
     }
-    kmip_room_free(&client->request);
-    kmip_room_free(&client->response);
-    kmip_room_free(&client->line);
-    kmip_room_free(&client->value);
-    kmip_room_free(&client->item);
-    kmip_room_free(&client->pem);
+    kmip_forget_answer(client);
     free(client);
 }
 
@@ -127,20 +122,17 @@ static void begin_time(kmip_client *client, const char *operation) {
     client->reasons[0] = 0;
 }
 
-/* Opens a connection with what the files say: KMIP_ANSWERED, or what went wrong, and why in
-   client->reasons. */
-static int open_first(kmip_client *client, const kmip_settings *settings) {
-    kmip_reason why = {""};
-    begin_time(client, "open");
-    client->context = kmip_context_of(settings, &why);
-    client->reconnects = settings->reconnect || client->servers->count > 1;
-    if (client->context) return kmip_open_any(client);
-    snprintf(client->reasons, sizeof client->reasons, "%s", why.text);
-    return KMIP_LOST;
+/* Keeps why there is no client, which is freed. */
+static int no_client(kmip_client *client, int status, const char *why, char *error, size_t room) {
+    kmip_error_line(error, room, "ConnectError",
+                    status == KMIP_NO_MEMORY ? KMIP_SERVERS_MEMORY : why);
+    free_client(client);
+    return status;
 }
 
-/* Opens a client with settings of this version. */
-static int connect_by(const kmip_settings *settings, kmip_client **into, char *error, size_t room) {
+/* Makes a client by settings of this version, which has no connection yet. */
+static int make_client(const kmip_settings *settings, kmip_client **into, char *error,
+                       size_t room) {
     const char *wrong = wrong_setting(settings);
     kmip_servers *servers = wrong ? NULL : kmip_servers_of(settings, &wrong);
     if (wrong && strcmp(wrong, KMIP_SERVERS_MEMORY) != 0) {
@@ -148,18 +140,62 @@ static int connect_by(const kmip_settings *settings, kmip_client **into, char *e
         return KMIP_CALL_GRAMMAR;
     }
     kmip_client *client = servers ? client_of(settings) : NULL;
-    if (client)
-        client->servers = servers;
-    else
-        kmip_servers_leave(servers);
-    int status = client ? open_first(client, settings) : KMIP_NO_MEMORY;
-    if (status == KMIP_ANSWERED) {
-        *into = client;
-        return status;
-    }
-    kmip_error_line(error, room, "ConnectError", client ? client->reasons : "out of memory");
-    free_client(client);
-    return status;
+    if (!client) kmip_servers_leave(servers);
+    if (!client) return no_client(NULL, KMIP_NO_MEMORY, "", error, room);
+    kmip_reason why = {""};
+    client->servers = servers;
+    client->reconnects = settings->reconnect || servers->count > 1;
+    begin_time(client, "open");
+    client->context = kmip_context_of(settings, &why);
+    if (!client->context) return no_client(client, KMIP_LOST, why.text, error, room);
+    *into = client;
+    return KMIP_ANSWERED;
+}
+
+/* Opens a connection of a client that has none, which is freed where there is no connection. */
+static int open_client(kmip_client *client, kmip_client **into, char *error, size_t room) {
+    int status = kmip_open_any(client);
+    if (status != KMIP_ANSWERED) return no_client(client, status, client->reasons, error, room);
+    *into = client;
+    return KMIP_ANSWERED;
+}
+
+int kmip_open_like(const kmip_client *like, double end, kmip_client **into, char *error,
+                   size_t room) {
+    const kmip_settings settings = {.user = like->user,
+                                    .password = like->password,
+                                    .server_name = like->server_name,
+                                    .limit = like->limit,
+                                    .seconds = like->seconds,
+                                    .max_age = like->max_age,
+                                    .library = like->library,
+                                    .log = like->log,
+                                    .log_data = like->log_data,
+                                    .record = like->record,
+                                    .record_data = like->record_data};
+    kmip_client *client = client_of(&settings);
+    if (!client || SSL_CTX_up_ref(like->context) != 1)
+        return no_client(client, KMIP_NO_MEMORY, "", error, room);
+    client->context = like->context;
+    client->servers = kmip_servers_take(like->servers);
+    client->reconnects = like->reconnects;
+    begin_time(client, "open");
+    client->end = end;
+    return open_client(client, into, error, room);
+}
+
+void kmip_forget_answer(kmip_client *client) {
+    kmip_forget_call(client);
+    client->walk.item.at = NULL;
+    client->response_len = 0;
+    client->status = KMIP_LOST;
+    client->sent = false;
+    kmip_room_free(&client->request);
+    kmip_room_free(&client->response);
+    kmip_room_free(&client->line);
+    kmip_room_free(&client->value);
+    kmip_room_free(&client->item);
+    kmip_room_free(&client->pem);
 }
 
 /* What is wrong with the arguments of an opening, or a null pointer; with none the settings are those
@@ -183,9 +219,20 @@ int kmip_connect(const kmip_settings *settings, kmip_client **client, char *erro
     }
     kmip_queue queue;
     kmip_queue_take(&queue);
-    int status = connect_by(&own, client, error, room);
+    kmip_client *made = NULL;
+    int status = make_client(&own, &made, error, room);
+    if (status == KMIP_ANSWERED) status = open_client(made, client, error, room);
     kmip_queue_give_back(&queue);
     return status;
+}
+
+kmip_client *kmip_unopened(const kmip_settings *settings, char *error, size_t room) {
+    kmip_settings own;
+    kmip_client *client = NULL;
+    const char *wrong = wrong_opening(settings, &client, &own);
+    if (wrong) kmip_error_line(error, room, "ConfigurationError", wrong);
+    if (wrong || make_client(&own, &client, error, room) != KMIP_ANSWERED) return NULL;
+    return client;
 }
 
 kmip_client *kmip_open(const kmip_settings *settings, char *error, size_t room) {

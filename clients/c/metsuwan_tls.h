@@ -490,6 +490,44 @@ void kmip_close(kmip_client *client);
    nothing. */
 void kmip_abandon(kmip_client *client);
 
+/* Connections that threads share, at most so many at once, with one list of servers for all of them:
+
+       kmip_pool *pool = kmip_pool_new(&settings, 8, error, sizeof error);
+       ..
+       kmip_client *client = kmip_pool_take(pool, error, sizeof error);
+       if (client && kmip_call(client, "sign", "2", "68656C6C6F", NULL) == KMIP_ANSWERED)
+           ..
+       kmip_pool_give_back(pool, client);
+
+   Any thread may make any of these calls at any time, but for kmip_pool_free. Log and record of the
+   settings are called by all threads that make calls, and so by several at once. */
+typedef struct kmip_pool kmip_pool;
+#define KMIP_POOL_MOST 1024
+
+/* A pool of 1 to KMIP_POOL_MOST connections, none of which is opened yet: files are read now, and a
+   credential is kept. A null pointer where the settings are wrong or memory runs out; then `error` is
+   as after kmip_open. */
+KMIP_LOOKED_AT kmip_pool *kmip_pool_new(const kmip_settings *settings, size_t size, char *error,
+                                        size_t room);
+
+/* A connection, for one thread, until it is given back. It waits for one where all are taken, and opens
+   one where none is free; for both together it has the seconds of the settings. One that is free is
+   looked at before: where it has ended, is older than max_age, or its server has failed since it was
+   opened, another is taken. With the order `first` it is the one that was used last, with `turns` the
+   one that is free for longest. A null pointer where there is none, and `error` says why. */
+KMIP_LOOKED_AT kmip_client *kmip_pool_take(kmip_pool *pool, char *error, size_t room);
+
+/* Gives it back, also where its connection is lost, in place of kmip_close; what it has of its last
+   call is overwritten and freed. Batches of it are not used after that but by kmip_batch_free. A null
+   client is fine.
+
+   In the child of a fork a pool has new connections: it closes its copies of those that were free, and
+   one that was taken before is of no use but to be given back. */
+void kmip_pool_give_back(kmip_pool *pool, kmip_client *client);
+
+/* Ends those that are free, and when the last is given back what is left. A null pointer is fine. */
+void kmip_pool_free(kmip_pool *pool);
+
 #ifdef __cplusplus
 }
 #endif

@@ -22,7 +22,10 @@ verdict 'no example looks for an error in the text of a line'
 # What returns a status, a length or memory is to be looked at.
 ! grep -nE '^(int|int32_t|int64_t|kmip_[a-z]+ \*) ?kmip_' metsuwan.h metsuwan_tls.h >"$said"
 verdict 'each call of the headers that returns a status or memory says so'
-printf '#include "metsuwan_tls.h"\nvoid f(kmip_client *client) { kmip_call(client, "query", NULL); }\n' |
-    gcc -x c -std=c11 -I. -Werror=unused-result -c -o "$work/ignored.o" - >"$said" 2>&1
-(($? != 0)) && grep -q unused-result "$said"
+if printf '#include "metsuwan_tls.h"\nvoid f(kmip_client *client) { kmip_call(client, "query", NULL); }\n' |
+    gcc -x c -std=c11 -I. -Werror=unused-result -c -o "$work/ignored.o" - >"$said" 2>&1; then
+    false
+else
+    grep -q unused-result "$said"
+fi
 verdict 'and one that is not looked at is warned of'
