@@ -402,11 +402,16 @@ HIDDEN const char *kmip_past_value(const char *at);
 /* Whether the answer of a line is a tree, an item of KMIP's JSON. */
 HIDDEN bool kmip_is_tree(const char *line);
 
+/* Writes those characters of a line of JSON as their escapes, which say the same; false where memory
+   runs out. */
+HIDDEN bool kmip_escape_line(kmip_room *line);
+
 /* Writes {"error":..,"text":..}, in which the text is cut to the room. */
 HIDDEN void kmip_error_line(char *into, size_t room, const char *kind, const char *text);
 
 /* Writes the first character of a text as a string of JSON has it, and says how many bytes of the
-   text that was. A byte that is not UTF-8 becomes a question mark. */
+   text that was. A byte that is not UTF-8 becomes a question mark, and what a terminal would not show,
+   as ESC, C1 controls and U+202E, its escape. */
 HIDDEN size_t kmip_write_character(const char *text, char into[8]);
 
 /* Writes the value at a path of a line to room that is made for it, with a byte 0 after it, and says

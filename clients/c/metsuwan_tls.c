@@ -413,7 +413,7 @@ static int32_t line_of(kmip_client *client) {
         if (length >= 0 && (uint64_t)length < client->line.room) {
             if (length > 0 && line[length - 1] == '\n') length--;
             line[length] = 0;
-            return status;
+            return kmip_escape_line(&client->line) ? status : -1;
         }
         if (!kmip_room_has(&client->line, (size_t)length + 1)) return -1;
     }
