@@ -72,6 +72,13 @@
 extern "C" {
 #endif
 
+/* Of what returns a status, a length or memory: compilers warn where it is not looked at. */
+#ifdef __GNUC__
+#define KMIP_LOOKED_AT __attribute__((warn_unused_result))
+#else
+#define KMIP_LOOKED_AT
+#endif
+
 /* The version of this header. (That of KMIP is another matter.) */
 #define METSUWAN_VERSION "2.0"
 #define METSUWAN_VERSION_MAJOR 2
@@ -150,9 +157,10 @@ enum {
                             kmip_data_word("hello", 5), kmip_text_word("mode=ECB")};
        int64_t length = kmip_request(words, 4, id, 8, false, id, 0, id, 0, request, 4096);
 */
-int64_t kmip_request(const kmip_word *words, size_t count, const uint8_t *id, size_t id_len,
-                     bool has_credential, const uint8_t *user, size_t user_len,
-                     const uint8_t *password, size_t password_len, uint8_t *into, size_t room);
+KMIP_LOOKED_AT int64_t kmip_request(const kmip_word *words, size_t count, const uint8_t *id,
+                                    size_t id_len, bool has_credential, const uint8_t *user,
+                                    size_t user_len, const uint8_t *password, size_t password_len,
+                                    uint8_t *into, size_t room);
 
 /* Why words are no call, as a text: which word is wrong, and what may stand there, as
    "sign: hash= is none of MD2, MD4, MD5, SHA1, ..". Returns its length in bytes.
@@ -164,7 +172,8 @@ int64_t kmip_request(const kmip_word *words, size_t count, const uint8_t *id, si
 
    It shows the call's name, and a word that is to be one of several names; no word else, since one
    may be a secret. It is not ended by a zero. */
-int64_t kmip_refusal(const kmip_word *words, size_t count, uint8_t *into, size_t room);
+KMIP_LOOKED_AT int64_t kmip_refusal(const kmip_word *words, size_t count, uint8_t *into,
+                                    size_t room);
 
 /* How many bytes follow the first 8 of a response: 0 to 4294967295.
 
@@ -175,7 +184,7 @@ int64_t kmip_refusal(const kmip_word *words, size_t count, uint8_t *into, size_t
    KMIP_LENGTH_LIMIT        the response is longer than the limit
 
    After a negative number close the connection: what follows on it is no message. */
-int64_t kmip_contents_len(const uint8_t *head, size_t eight, uint32_t limit);
+KMIP_LOOKED_AT int64_t kmip_contents_len(const uint8_t *head, size_t eight, uint32_t limit);
 
 /* Says what a response answers to a call, and writes that as one line of JSON, with its line feed,
    to `into`. Returns KMIP_ANSWERED, KMIP_REFUSED, KMIP_CALL_GRAMMAR, KMIP_LOST or KMIP_NO_MEMORY.
@@ -202,9 +211,9 @@ int64_t kmip_contents_len(const uint8_t *head, size_t eight, uint32_t limit);
    call of the table belongs to it by its operation and, where the request had an ID, by that: a
    response with another one or none is KMIP_LOST, but for a failure that names no operation and has
    no ID, since a server that cannot read a request knows neither of the two. */
-int32_t kmip_answer(const kmip_word *words, size_t count, const uint8_t *id, size_t id_len,
-                    const uint8_t *response, size_t response_len, uint8_t *into, size_t room,
-                    int64_t *length);
+KMIP_LOOKED_AT int32_t kmip_answer(const kmip_word *words, size_t count, const uint8_t *id,
+                                   size_t id_len, const uint8_t *response, size_t response_len,
+                                   uint8_t *into, size_t room, int64_t *length);
 
 /* Writes a single value of an answer to `into`, and returns its length in bytes.
 
@@ -236,8 +245,8 @@ int32_t kmip_answer(const kmip_word *words, size_t count, const uint8_t *id, siz
 
        length = kmip_value(line, line_len, path, strlen("data"), true, data, sizeof data);
 */
-int64_t kmip_value(const uint8_t *line, size_t line_len, const uint8_t *path, size_t path_len,
-                   bool hex, uint8_t *into, size_t room);
+KMIP_LOOKED_AT int64_t kmip_value(const uint8_t *line, size_t line_len, const uint8_t *path,
+                                  size_t path_len, bool hex, uint8_t *into, size_t room);
 
 /* Any operation, by its name and its payload in JSON or XML: its request, as kmip_request writes
    one. Returns its length in bytes.
@@ -258,11 +267,13 @@ int64_t kmip_value(const uint8_t *line, size_t line_len, const uint8_t *path, si
    KMIP_LENGTH_NO_FORM      the request has no wire form: a text is too long for it, or the bytes
                             of a Big Integer are no multiple of eight
    KMIP_LENGTH_MEMORY       out of memory */
-int64_t kmip_operation_request(const uint8_t *name, size_t name_len, const uint8_t *version,
-                               size_t version_len, const uint8_t *id, size_t id_len,
-                               const uint8_t *payload, size_t payload_len, bool has_credential,
-                               const uint8_t *user, size_t user_len, const uint8_t *password,
-                               size_t password_len, uint8_t *into, size_t room);
+KMIP_LOOKED_AT int64_t kmip_operation_request(const uint8_t *name, size_t name_len,
+                                              const uint8_t *version, size_t version_len,
+                                              const uint8_t *id, size_t id_len,
+                                              const uint8_t *payload, size_t payload_len,
+                                              bool has_credential, const uint8_t *user,
+                                              size_t user_len, const uint8_t *password,
+                                              size_t password_len, uint8_t *into, size_t room);
 
 /* Says what a response answers to such a call, as kmip_answer does. The line is {"answer":TREE}
    with the response's payload in the same JSON, or with `plain` {"answer":{..}} with the payload as
@@ -279,11 +290,13 @@ int64_t kmip_operation_request(const uint8_t *name, size_t name_len, const uint8
    plain                    whether the payload is written as an object of its members; what is of
                             which type is then not written
    response .. length       as for kmip_answer */
-int32_t kmip_operation_answer(const uint8_t *name, size_t name_len, const uint8_t *version,
-                              size_t version_len, const uint8_t *id, size_t id_len,
-                              const uint8_t *payload, size_t payload_len, const uint8_t *response,
-                              size_t response_len, bool plain, uint8_t *into, size_t room,
-                              int64_t *length);
+KMIP_LOOKED_AT int32_t kmip_operation_answer(const uint8_t *name, size_t name_len,
+                                             const uint8_t *version, size_t version_len,
+                                             const uint8_t *id, size_t id_len,
+                                             const uint8_t *payload, size_t payload_len,
+                                             const uint8_t *response, size_t response_len,
+                                             bool plain, uint8_t *into, size_t room,
+                                             int64_t *length);
 
 /* Says why a name, a version and a payload make no such call, as a text in UTF-8 that is not ended
    by a zero. Of a payload it says the line and the column, the way to the place, as
@@ -294,9 +307,10 @@ int32_t kmip_operation_answer(const uint8_t *name, size_t name_len, const uint8_
    into, room               where the text goes; nothing is written where it does not fit
    KMIP_LENGTH_ABSENT       they make a call
    KMIP_LENGTH_MEMORY       out of memory */
-int64_t kmip_operation_refusal(const uint8_t *name, size_t name_len, const uint8_t *version,
-                               size_t version_len, const uint8_t *payload, size_t payload_len,
-                               uint8_t *into, size_t room);
+KMIP_LOOKED_AT int64_t kmip_operation_refusal(const uint8_t *name, size_t name_len,
+                                              const uint8_t *version, size_t version_len,
+                                              const uint8_t *payload, size_t payload_len,
+                                              uint8_t *into, size_t room);
 
 #ifdef __cplusplus
 }

@@ -484,7 +484,11 @@ int kmip_batch_send(kmip_batch *batch) {
 int kmip_batch_answer(kmip_batch *batch, size_t at) {
     if (!batch) return KMIP_LOST;
     kmip_client *client = batch->client;
-    if (at < batch->answered) return read_item(batch, &batch->items[at]);
+    if (at < batch->answered) {
+        int status = read_item(batch, &batch->items[at]);
+        kmip_clean_stack();
+        return status;
+    }
     client->response_len = 0;
     return kmip_says(client, KMIP_CALL_GRAMMAR, "GrammarError",
                      "the batch has no answer to such a call");

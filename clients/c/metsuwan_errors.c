@@ -213,4 +213,5 @@ void kmip_queue_give_back(kmip_queue *queue) {
         (void)ERR_set_mark();
     free(queue->errors);
     *queue = (kmip_queue){NULL, 0, 0};
+    kmip_clean_stack();
 }

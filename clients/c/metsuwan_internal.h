@@ -9,9 +9,11 @@
 
 #ifdef __GNUC__
 #define HIDDEN __attribute__((visibility("hidden")))
+#define NOT_INLINE __attribute__((noinline))
 #define PRINTS(text, first) __attribute__((format(printf, text, first)))
 #else
 #define HIDDEN
+#define NOT_INLINE
 #define PRINTS(text, first)
 #endif
 
@@ -271,6 +273,17 @@ HIDDEN void kmip_tell_call(kmip_client *client, const char *call);
    and the response; false where memory ran out. */
 HIDDEN bool kmip_tell_record(kmip_client *client);
 
+/* A client without a connection, as settings say; a null pointer, and why. */
+HIDDEN kmip_client *kmip_unopened(const kmip_settings *settings, char *error, size_t room);
+
+/* Opens another client like this one until this time (0: without end): KMIP_ANSWERED, or the status of
+   what went wrong, and why. */
+HIDDEN int kmip_open_like(const kmip_client *like, double end, kmip_client **into, char *error,
+                          size_t room);
+
+/* Overwrites and frees what a client has of its last call. */
+HIDDEN void kmip_forget_answer(kmip_client *client);
+
 /* Keeps what came of a call. After a status that loses the connection it is closed. */
 HIDDEN int kmip_ends_as(kmip_client *client, int status);
 
@@ -372,7 +385,13 @@ typedef struct {
     int marks;
 } kmip_queue;
 HIDDEN void kmip_queue_take(kmip_queue *queue);
+
+/* It is the last that a call does: what the library and OpenSSL had on the stack is overwritten, too. */
 HIDDEN void kmip_queue_give_back(kmip_queue *queue);
+
+/* Overwrites the stack below the caller, as far down as calls of the library take it, and vector
+   registers: what was signed may stand there. */
+HIDDEN void kmip_clean_stack(void);
 
 /* The kind of the error that a line has, after a call with this status. */
 HIDDEN kmip_kind kmip_kind_of(const char *line, int status);
@@ -388,11 +407,16 @@ HIDDEN const char *kmip_past_value(const char *at);
 /* Whether the answer of a line is a tree, an item of KMIP's JSON. */
 HIDDEN bool kmip_is_tree(const char *line);
 
+/* Writes those characters of a line of JSON as their escapes, which say the same; false where memory
+   runs out. */
+HIDDEN bool kmip_escape_line(kmip_room *line);
+
 /* Writes {"error":..,"text":..}, in which the text is cut to the room. */
 HIDDEN void kmip_error_line(char *into, size_t room, const char *kind, const char *text);
 
 /* Writes the first character of a text as a string of JSON has it, and says how many bytes of the
-   text that was. A byte that is not UTF-8 becomes a question mark. */
+   text that was. A byte that is not UTF-8 becomes a question mark, and what a terminal would not show,
+   as ESC, C1 controls and U+202E, its escape. */
 HIDDEN size_t kmip_write_character(const char *text, char into[8]);
 
 /* Writes the value at a path of a line to room that is made for it, with a byte 0 after it, and says

@@ -81,12 +81,7 @@ static void free_client(kmip_client *client) {
         SSL_CTX_free(client->context);
         kmip_servers_leave(client->servers);
     }
-    kmip_room_free(&client->request);
-    kmip_room_free(&client->response);
-    kmip_room_free(&client->line);
-    kmip_room_free(&client->value);
-    kmip_room_free(&client->item);
-    kmip_room_free(&client->pem);
+    kmip_forget_answer(client);
     free(client);
 }
 
@@ -127,21 +122,18 @@ static void begin_time(kmip_client *client, const char *operation) {
     client->reasons[0] = 0;
 }
 
-/* Opens a connection with what the files say: KMIP_ANSWERED, or what went wrong, and why in
-   client->reasons. */
-static int open_first(kmip_client *client, const kmip_settings *settings) {
-    kmip_reason why = {""};
-    begin_time(client, "open");
-    client->context = kmip_context_of(settings, &why);
-    client->reconnects = settings->reconnect || client->servers->count > 1;
-    if (client->context) return kmip_open_any(client);
-    snprintf(client->reasons, sizeof client->reasons, "%s", why.text);
-    return KMIP_LOST;
+/* Keeps why there is no client, which is freed. */
+static int no_client(kmip_client *client, int status, const char *why, char *error, size_t room) {
+    kmip_error_line(error, room, "ConnectError",
+                    status == KMIP_NO_MEMORY ? KMIP_SERVERS_MEMORY : why);
+    free_client(client);
+    return status;
 }
 
-/* Opens a client with settings of this version, and with servers that are shared, or null. */
-static int connect_by(const kmip_settings *settings, kmip_servers *shared, kmip_client **into,
-                      char *error, size_t room) {
+/* Makes a client by settings of this version, and with servers that are shared, or null. It has no
+   connection yet. */
+static int make_client(const kmip_settings *settings, kmip_servers *shared, kmip_client **into,
+                       char *error, size_t room) {
     const char *wrong = wrong_setting(settings);
     kmip_servers *servers = wrong    ? NULL
                             : shared ? kmip_servers_take(shared)
@@ -151,18 +143,62 @@ static int connect_by(const kmip_settings *settings, kmip_servers *shared, kmip_
         return KMIP_CALL_GRAMMAR;
     }
     kmip_client *client = servers ? client_of(settings) : NULL;
-    if (client)
-        client->servers = servers;
-    else
-        kmip_servers_leave(servers);
-    int status = client ? open_first(client, settings) : KMIP_NO_MEMORY;
-    if (status == KMIP_ANSWERED) {
-        *into = client;
-        return status;
-    }
-    kmip_error_line(error, room, "ConnectError", client ? client->reasons : "out of memory");
-    free_client(client);
-    return status;
+    if (!client) kmip_servers_leave(servers);
+    if (!client) return no_client(NULL, KMIP_NO_MEMORY, "", error, room);
+    kmip_reason why = {""};
+    client->servers = servers;
+    client->reconnects = settings->reconnect || servers->count > 1;
+    begin_time(client, "open");
+    client->context = kmip_context_of(settings, &why);
+    if (!client->context) return no_client(client, KMIP_LOST, why.text, error, room);
+    *into = client;
+    return KMIP_ANSWERED;
+}
+
+/* Opens a connection of a client that has none, which is freed where there is no connection. */
+static int open_client(kmip_client *client, kmip_client **into, char *error, size_t room) {
+    int status = kmip_open_any(client);
+    if (status != KMIP_ANSWERED) return no_client(client, status, client->reasons, error, room);
+    *into = client;
+    return KMIP_ANSWERED;
+}
+
+int kmip_open_like(const kmip_client *like, double end, kmip_client **into, char *error,
+                   size_t room) {
+    const kmip_settings settings = {.user = like->user,
+                                    .password = like->password,
+                                    .server_name = like->server_name,
+                                    .limit = like->limit,
+                                    .seconds = like->seconds,
+                                    .max_age = like->max_age,
+                                    .library = like->library,
+                                    .log = like->log,
+                                    .log_data = like->log_data,
+                                    .record = like->record,
+                                    .record_data = like->record_data};
+    kmip_client *client = client_of(&settings);
+    if (!client || SSL_CTX_up_ref(like->context) != 1)
+        return no_client(client, KMIP_NO_MEMORY, "", error, room);
+    client->context = like->context;
+    client->servers = kmip_servers_take(like->servers);
+    client->reconnects = like->reconnects;
+    begin_time(client, "open");
+    client->end = end;
+    return open_client(client, into, error, room);
+}
+
+void kmip_forget_answer(kmip_client *client) {
+    kmip_forget_call(client);
+    client->walk.item.at = NULL;
+    client->response_len = 0;
+    client->status = KMIP_LOST;
+    client->sent = false;
+    kmip_room_free(&client->request);
+    kmip_room_free(&client->response);
+    kmip_room_free(&client->line);
+    kmip_room_free(&client->value);
+    kmip_room_free(&client->item);
+    kmip_room_free(&client->pem);
 }
 
 /* What is wrong with the arguments of an opening, or a null pointer; with none the settings are those
@@ -187,7 +223,9 @@ int kmip_connect_sharing(const kmip_settings *settings, kmip_servers *servers, k
     }
     kmip_queue queue;
     kmip_queue_take(&queue);
-    int status = connect_by(&own, servers, client, error, room);
+    kmip_client *made = NULL;
+    int status = make_client(&own, servers, &made, error, room);
+    if (status == KMIP_ANSWERED) status = open_client(made, client, error, room);
     kmip_queue_give_back(&queue);
     return status;
 }
@@ -196,10 +234,19 @@ int kmip_connect(const kmip_settings *settings, kmip_client **client, char *erro
     return kmip_connect_sharing(settings, NULL, client, error, room);
 }
 
-kmip_client *kmip_open(const kmip_settings *settings, char *error, size_t room) {
-    kmip_client *client;
-    (void)kmip_connect(settings, &client, error, room); /* the line says what the status does */
+kmip_client *kmip_unopened(const kmip_settings *settings, char *error, size_t room) {
+    kmip_settings own;
+    kmip_client *client = NULL;
+    const char *wrong = wrong_opening(settings, &client, &own);
+    if (wrong) kmip_error_line(error, room, "ConfigurationError", wrong);
+    if (wrong || make_client(&own, NULL, &client, error, room) != KMIP_ANSWERED) return NULL;
     return client;
+}
+
+kmip_client *kmip_open(const kmip_settings *settings, char *error, size_t room) {
+    kmip_client *client = NULL;
+    int status = kmip_connect(settings, &client, error, room);
+    return status == KMIP_ANSWERED ? client : NULL;
 }
 
 void kmip_close(kmip_client *client) {
@@ -374,7 +421,7 @@ static int32_t line_of(kmip_client *client) {
         if (length >= 0 && (uint64_t)length < client->line.room) {
             if (length > 0 && line[length - 1] == '\n') length--;
             line[length] = 0;
-            return status;
+            return kmip_escape_line(&client->line) ? status : -1;
         }
         if (!kmip_room_has(&client->line, (size_t)length + 1)) return -1;
     }
@@ -389,7 +436,8 @@ int32_t kmip_line_of_get(kmip_client *client) {
     return status;
 }
 
-int64_t kmip_value_of(const char *line, const char *path, bool hex, kmip_room *into) {
+/* The value in room that is made for it; or a negative number. */
+static int64_t value_of(const char *line, const char *path, bool hex, kmip_room *into) {
     if (!kmip_room_has(into, 256)) return -1;
     for (;;) {
         int64_t length = kmip_value(bytes_of(line), strlen(line), bytes_of(path), strlen(path), hex,
@@ -401,6 +449,12 @@ int64_t kmip_value_of(const char *line, const char *path, bool hex, kmip_room *i
         }
         if (!kmip_room_has(into, (size_t)length + 1)) return -1;
     }
+}
+
+int64_t kmip_value_of(const char *line, const char *path, bool hex, kmip_room *into) {
+    int64_t length = value_of(line, path, hex, into);
+    kmip_clean_stack();
+    return length;
 }
 
 int kmip_read_answer(kmip_client *client) {

@@ -15,7 +15,10 @@
        }
        kmip_close(client);
 
-   A client is for one thread at a time, and for the process that opened it. The errors that OpenSSL
+   A client is for one thread at a time, and for the process that opened it. A call takes less than
+   96 KiB of its thread's stack, whatever the server answers; one of an operation whose payload the
+   program itself nests deeper than 30 levels less than 128. (So it was on x86-64 with OpenSSL 3.0.)
+   Of the stack that it took 32 KiB are overwritten at its end. The errors that OpenSSL
    has queued in the caller's thread are the same before and after each call. Programs link
    -lmetsuwan_tls -lmetsuwan -lssl -lcrypto, or what `pkg-config --libs metsuwan_tls` says. */
 #ifndef METSUWAN_TLS_H
@@ -188,12 +191,13 @@ static inline kmip_settings kmip_defaults(void) {
 /* Connects. A null pointer where there is no connection; then `error`, of `room` bytes, is a line
    of JSON that says why, as {"error":"ConnectError","text":"connect: Connection refused"}, cut to
    its room. 300 bytes are enough for all that OpenSSL says of one server, 2048 for all of several. */
-kmip_client *kmip_open(const kmip_settings *settings, char *error, size_t room);
+KMIP_LOOKED_AT kmip_client *kmip_open(const kmip_settings *settings, char *error, size_t room);
 
 /* The same, with a status: KMIP_ANSWERED, and the client is written to `client`; KMIP_CALL_GRAMMAR,
    the settings are wrong; KMIP_LOST, there is no connection; KMIP_NO_MEMORY. Of the last three a
    null pointer is written. */
-int kmip_connect(const kmip_settings *settings, kmip_client **client, char *error, size_t room);
+KMIP_LOOKED_AT int kmip_connect(const kmip_settings *settings, kmip_client **client, char *error,
+                                size_t room);
 
 /* Makes a call, and returns its status: KMIP_ANSWERED, KMIP_REFUSED, KMIP_CALL_GRAMMAR, KMIP_LOST
    or KMIP_NO_MEMORY. After KMIP_LOST and KMIP_NO_MEMORY the connection is closed, and without
@@ -223,7 +227,7 @@ int kmip_connect(const kmip_settings *settings, kmip_client **client, char *erro
 
    The request of a call of the table has eight random bytes as its Unique Batch Item ID, as that of
    kmip_operation, which says what that means. */
-int kmip_call(kmip_client *client, const char *call, ...) KMIP_ENDS_WITH_NULL;
+KMIP_LOOKED_AT int kmip_call(kmip_client *client, const char *call, ...) KMIP_ENDS_WITH_NULL;
 
 /* What the words of kmip_call end with: a null pointer, which NULL is where it is one of C's own.
    So a word that happens to be null ends them too, and those after it are not asked for: where
@@ -231,7 +235,7 @@ int kmip_call(kmip_client *client, const char *call, ...) KMIP_ENDS_WITH_NULL;
 #define KMIP_END ((const char *)0)
 
 /* The same, with the words in an array that ends with a null pointer. */
-int kmip_call_words(kmip_client *client, const char *call, const char *const *words);
+KMIP_LOOKED_AT int kmip_call_words(kmip_client *client, const char *call, const char *const *words);
 
 /* The same, with so many words, each a text or data of any length and with any bytes:
 
@@ -240,7 +244,8 @@ int kmip_call_words(kmip_client *client, const char *call, const char *const *wo
        kmip_call_array(client, "encrypt", words, 3)
 
    A word whose `bytes` are null is KMIP_CALL_GRAMMAR. `words` may be null where `count` is 0. */
-int kmip_call_array(kmip_client *client, const char *call, const kmip_word *words, size_t count);
+KMIP_LOOKED_AT int kmip_call_array(kmip_client *client, const char *call, const kmip_word *words,
+                                   size_t count);
 
 /* Makes a call of any operation of KMIP 1.0 to 1.2, and returns its status, as kmip_call does. Its
    name, its version and its payload are those of kmip_operation_request, each a text:
@@ -255,7 +260,8 @@ int kmip_call_array(kmip_client *client, const char *call, const kmip_word *word
    The request has eight random bytes as its Unique Batch Item ID. A response with another one, or
    with none, is KMIP_LOST, KMIP_KIND_OTHER_ANSWER: it is that of another call. Where the system has
    no random bytes nothing is sent: KMIP_LOST, KMIP_KIND_WRITE. */
-int kmip_operation(kmip_client *client, const char *name, const char *version, const char *payload);
+KMIP_LOOKED_AT int kmip_operation(kmip_client *client, const char *name, const char *version,
+                                  const char *payload);
 
 /* Has the server keep an X.509 certificate, and returns the status, as kmip_operation does:
 
@@ -269,8 +275,8 @@ int kmip_operation(kmip_client *client, const char *name, const char *version, c
    Its identifier is then kmip_text(client, "UniqueIdentifier", NULL). KMIP_CALL_GRAMMAR: it is
    neither DER nor PEM or no certificate, as a private key, a null pointer, or has no bytes; or the
    name or the usage is none. Then nothing was sent, and the connection stays. */
-int kmip_register_certificate(kmip_client *client, const void *certificate, size_t length,
-                              const char *name, const char *usage);
+KMIP_LOOKED_AT int kmip_register_certificate(kmip_client *client, const void *certificate,
+                                             size_t length, const char *name, const char *usage);
 
 /* Has the server keep a key that OpenSSL wrote, a private one or a public one, as that of a
    certificate:
@@ -283,15 +289,15 @@ int kmip_register_certificate(kmip_client *client, const void *certificate, size
 
    KMIP_CALL_GRAMMAR: it is none, a null pointer, a key of the other kind, or an encrypted one, or
    KMIP 1.2 has no name for its algorithm. Then nothing was sent, and the connection stays. */
-int kmip_register_private_key(kmip_client *client, const void *pem, size_t length, const char *name,
-                              const char *usage);
-int kmip_register_public_key(kmip_client *client, const void *pem, size_t length, const char *name,
-                             const char *usage);
+KMIP_LOOKED_AT int kmip_register_private_key(kmip_client *client, const void *pem, size_t length,
+                                             const char *name, const char *usage);
+KMIP_LOOKED_AT int kmip_register_public_key(kmip_client *client, const void *pem, size_t length,
+                                            const char *name, const char *usage);
 
 /* The same with a secret that is no key, whatever its bytes, but one at least: `kind` is "Password" or
    "Seed". */
-int kmip_register_secret(kmip_client *client, const void *data, size_t length, const char *kind,
-                         const char *name, const char *usage);
+KMIP_LOOKED_AT int kmip_register_secret(kmip_client *client, const void *data, size_t length,
+                                        const char *kind, const char *name, const char *usage);
 
 /* Several calls that are made in one message, in their order, each with a Unique Batch Item ID of
    its own:
@@ -315,17 +321,18 @@ typedef enum {
 
 /* A batch without calls; a null pointer where memory runs out, the client is null, or `on_error` is
    none. A null batch is KMIP_LOST, and has no calls. */
-kmip_batch *kmip_batch_new(kmip_client *client, kmip_on_error on_error);
+KMIP_LOOKED_AT kmip_batch *kmip_batch_new(kmip_client *client, kmip_on_error on_error);
 
 /* Adds a call, as kmip_call, kmip_call_words, kmip_call_array and kmip_operation make one. Nothing
    is sent, and the connection may be closed. KMIP_ANSWERED: it is added. KMIP_CALL_GRAMMAR and
    KMIP_REFUSED: it is none, or its request has no wire form; kmip_line says why, and the batch is
    as it was. */
-int kmip_batch_call(kmip_batch *batch, const char *call, ...) KMIP_ENDS_WITH_NULL;
-int kmip_batch_words(kmip_batch *batch, const char *call, const char *const *words);
-int kmip_batch_array(kmip_batch *batch, const char *call, const kmip_word *words, size_t count);
-int kmip_batch_operation(kmip_batch *batch, const char *name, const char *version,
-                         const char *payload);
+KMIP_LOOKED_AT int kmip_batch_call(kmip_batch *batch, const char *call, ...) KMIP_ENDS_WITH_NULL;
+KMIP_LOOKED_AT int kmip_batch_words(kmip_batch *batch, const char *call, const char *const *words);
+KMIP_LOOKED_AT int kmip_batch_array(kmip_batch *batch, const char *call, const kmip_word *words,
+                                    size_t count);
+KMIP_LOOKED_AT int kmip_batch_operation(kmip_batch *batch, const char *name, const char *version,
+                                        const char *payload);
 
 /* How many calls it has. */
 size_t kmip_batch_count(const kmip_batch *batch);
@@ -338,7 +345,7 @@ size_t kmip_batch_count(const kmip_batch *batch);
    The Unique Batch Item IDs are numbers of eight bytes that follow each other, and the first is
    random: so the answer to another batch is of no call of this one. Without random bytes it ends as
    kmip_operation does. */
-int kmip_batch_send(kmip_batch *batch);
+KMIP_LOOKED_AT int kmip_batch_send(kmip_batch *batch);
 
 /* Has the answer to the call at this place, from 0, be the last one: its status is returned, as that
    of the single call, and kmip_line, kmip_error_kind, kmip_bytes, kmip_text and kmip_pem are its
@@ -346,7 +353,7 @@ int kmip_batch_send(kmip_batch *batch);
    {"error":"Undone",..}: it has undone it. KMIP_LOST: the response is none to this call, and
    kmip_batch_send has closed the connection. KMIP_CALL_GRAMMAR: there is no such call, or no
    response to it. Nothing is sent, and nothing closed. */
-int kmip_batch_answer(kmip_batch *batch, size_t at);
+KMIP_LOOKED_AT int kmip_batch_answer(kmip_batch *batch, size_t at);
 
 /* Frees it, and overwrites its requests and responses first. A null pointer is fine. */
 void kmip_batch_free(kmip_batch *batch);
@@ -443,7 +450,7 @@ size_t kmip_count(kmip_client *client, const char *path);
 
        kmip_list *found = kmip_list_new(client, "unique_identifiers");
        while (kmip_list_next(found))
-           kmip_call(client, "activate", kmip_list_text(found, NULL, NULL), NULL);
+           puts(kmip_list_text(found, NULL, NULL));
        kmip_list_free(found);
 
    It is a copy: other calls may be made meanwhile, and the client may be closed. The time that it
@@ -453,7 +460,7 @@ typedef struct kmip_list kmip_list;
 /* The list at a path of the last answer, before its first item; without items where the answer has
    nothing there. A null pointer where the last call was not answered, `path` is null, or memory ran
    out. */
-kmip_list *kmip_list_new(kmip_client *client, const char *path);
+KMIP_LOOKED_AT kmip_list *kmip_list_new(kmip_client *client, const char *path);
 
 /* Goes to the next item. False where there is none, and of a null list. */
 bool kmip_list_next(kmip_list *list);
@@ -482,6 +489,44 @@ void kmip_close(kmip_client *client);
    the parent's. There kmip_close does no more than this, and a call is KMIP_LOST and sends
    nothing. */
 void kmip_abandon(kmip_client *client);
+
+/* Connections that threads share, at most so many at once, with one list of servers for all of them:
+
+       kmip_pool *pool = kmip_pool_new(&settings, 8, error, sizeof error);
+       ..
+       kmip_client *client = kmip_pool_take(pool, error, sizeof error);
+       if (client && kmip_call(client, "sign", "2", "68656C6C6F", NULL) == KMIP_ANSWERED)
+           ..
+       kmip_pool_give_back(pool, client);
+
+   Any thread may make any of these calls at any time, but for kmip_pool_free. Log and record of the
+   settings are called by all threads that make calls, and so by several at once. */
+typedef struct kmip_pool kmip_pool;
+#define KMIP_POOL_MOST 1024
+
+/* A pool of 1 to KMIP_POOL_MOST connections, none of which is opened yet: files are read now, and a
+   credential is kept. A null pointer where the settings are wrong or memory runs out; then `error` is
+   as after kmip_open. */
+KMIP_LOOKED_AT kmip_pool *kmip_pool_new(const kmip_settings *settings, size_t size, char *error,
+                                        size_t room);
+
+/* A connection, for one thread, until it is given back. It waits for one where all are taken, and opens
+   one where none is free; for both together it has the seconds of the settings. One that is free is
+   looked at before: where it has ended, is older than max_age, or its server has failed since it was
+   opened, another is taken. With the order `first` it is the one that was used last, with `turns` the
+   one that is free for longest. A null pointer where there is none, and `error` says why. */
+KMIP_LOOKED_AT kmip_client *kmip_pool_take(kmip_pool *pool, char *error, size_t room);
+
+/* Gives it back, also where its connection is lost, in place of kmip_close; what it has of its last
+   call is overwritten and freed. Batches of it are not used after that but by kmip_batch_free. A null
+   client is fine.
+
+   In the child of a fork a pool has new connections: it closes its copies of those that were free, and
+   one that was taken before is of no use but to be given back. */
+void kmip_pool_give_back(kmip_pool *pool, kmip_client *client);
+
+/* Ends those that are free, and when the last is given back what is left. A null pointer is fine. */
+void kmip_pool_free(kmip_pool *pool);
 
 #ifdef __cplusplus
 }

@@ -19,3 +19,13 @@ linter_says 'the layout is that of .clang-format' clang-format ' 14\.' clang-for
 # What an error is, programs are told by kmip_error_kind: a line has the server's text, too.
 ! grep -nE '(strstr|strcmp|strncmp)\(kmip_line' call.c life.c rotate.c ../openssl/*.c README.md ../../docs/OPENSSL.md >"$said" 2>&1
 verdict 'no example looks for an error in the text of a line'
+# What returns a status, a length or memory is to be looked at.
+! grep -nE '^(int|int32_t|int64_t|kmip_[a-z]+ \*) ?kmip_' metsuwan.h metsuwan_tls.h >"$said"
+verdict 'each call of the headers that returns a status or memory says so'
+if printf '#include "metsuwan_tls.h"\nvoid f(kmip_client *client) { kmip_call(client, "query", NULL); }\n' |
+    gcc -x c -std=c11 -I. -Werror=unused-result -c -o "$work/ignored.o" - >"$said" 2>&1; then
+    false
+else
+    grep -q unused-result "$said"
+fi
+verdict 'and one that is not looked at is warned of'
