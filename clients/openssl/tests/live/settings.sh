@@ -15,7 +15,7 @@ right() { # WHAT NAME=VALUE..
     does "$1" "${words[@]}"
 }
 right 'no setting at all'
-says 'it names itself' 'RSA keys of a KMIP server \(metsuwan\)'
+says 'it names itself' 'keys of a KMIP server \(metsuwan\)'
 wrong 'seconds that are no number' 'METSUWAN_SECONDS is no number from 0 to 86400: soon' METSUWAN_SECONDS=soon
 wrong 'seconds below 0' 'METSUWAN_SECONDS is no number' METSUWAN_SECONDS=-1
 wrong 'endless seconds' 'METSUWAN_SECONDS is no number' METSUWAN_SECONDS=inf
