@@ -645,7 +645,7 @@ def early(wire, request):
 
 
 @fake
-def refuses(wire, request):
+def refuses_reset(wire, request):
     """refuses the client's certificate by TLS 1.3, where that is after the client's handshake, and resets the connection"""
 
 
@@ -692,6 +692,9 @@ def main():
     if len(sys.argv) != 2 or sys.argv[1].startswith('-'):
         sys.exit('usage: fakes.py CERTS | --list | --reach CERTS PORTS')
     certs = sys.argv[1]
+    twice = {**FAKES, **PLAIN}.keys() & handshakes.ALL.keys()
+    if twice:
+        sys.exit('two fakes have one name: %s' % ', '.join(twice))
 
     def over_tls(name, certificate):
         context = context_of(certs, certificate)
