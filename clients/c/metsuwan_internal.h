@@ -185,8 +185,8 @@ struct kmip_client {
     double begun;          /* .. and when it began */
 };
 
-/* kmip_connect with a list of servers that others use too, in the place of that of the settings; a
-   null pointer: their own. */
+/* kmip_connect with settings of this version, and with a list of servers that others use too in the
+   place of that of the settings; a null pointer: their own. */
 HIDDEN int kmip_connect_sharing(const kmip_settings *settings, kmip_servers *servers,
                                 kmip_client **client, char *error, size_t room);
 

@@ -164,8 +164,7 @@ static int connect_by(const kmip_settings *settings, kmip_servers *shared, kmip_
     return status;
 }
 
-int kmip_connect_sharing(const kmip_settings *settings, kmip_servers *servers, kmip_client **client,
-                         char *error, size_t room) {
+int kmip_connect(const kmip_settings *settings, kmip_client **client, char *error, size_t room) {
     kmip_settings own;
     *client = NULL;
     if (!read_settings(settings, &own)) {
@@ -175,13 +174,9 @@ int kmip_connect_sharing(const kmip_settings *settings, kmip_servers *servers, k
     }
     kmip_queue queue;
     kmip_queue_take(&queue);
-    int status = connect_by(&own, servers, client, error, room);
+    int status = connect_by(&own, NULL, client, error, room);
     kmip_queue_give_back(&queue);
     return status;
-}
-
-int kmip_connect(const kmip_settings *settings, kmip_client **client, char *error, size_t room) {
-    return kmip_connect_sharing(settings, NULL, client, error, room);
 }
 
 kmip_client *kmip_open(const kmip_settings *settings, char *error, size_t room) {
@@ -197,6 +192,16 @@ void kmip_close(kmip_client *client) {
     kmip_wire_close(client->wire);
     kmip_queue_give_back(&queue);
     free_client(client);
+}
+
+int kmip_connect_sharing(const kmip_settings *settings, kmip_servers *servers, kmip_client **client,
+                         char *error, size_t room) {
+    kmip_queue queue;
+    *client = NULL;
+    kmip_queue_take(&queue);
+    int status = connect_by(settings, servers, client, error, room);
+    kmip_queue_give_back(&queue);
+    return status;
 }
 
 void kmip_abandon(kmip_client *client) {
