@@ -242,12 +242,15 @@ static bool is_spent(const connection *link) {
            kmip_servers_failed_since(client->servers, client->at, client->opened_at);
 }
 
-kmip_client *connection_call(connection *link, const char *call, const kmip_word *words,
-                             size_t count) {
-    const provider *of = link->provider;
+/* Makes the connection one for a call; or raises an error. */
+static bool make_ready(connection *link) {
     if (link->client && is_spent(link)) disconnect(link);
-    if (!link->client && !connect_it(link)) return NULL;
-    int status = kmip_call_array(link->client, call, words, count);
+    return link->client || connect_it(link);
+}
+
+/* The client where a call was answered, which has this name and ended with this status. */
+static kmip_client *answered(connection *link, const char *call, int status) {
+    const provider *of = link->provider;
     if (status == KMIP_ANSWERED) return link->client;
     if (status == KMIP_NO_MEMORY)
         RAISE(of, REASON_MEMORY, "%s", call);
@@ -257,4 +260,15 @@ kmip_client *connection_call(connection *link, const char *call, const kmip_word
     /* (the next one is opened with files that may be others by then) */
     if (status == KMIP_LOST || status == KMIP_NO_MEMORY) disconnect(link);
     return NULL;
+}
+
+kmip_client *connection_call(connection *link, const char *call, const kmip_word *words,
+                             size_t count) {
+    if (!make_ready(link)) return NULL;
+    return answered(link, call, kmip_call_array(link->client, call, words, count));
+}
+
+kmip_client *connection_operation(connection *link, const char *name, const char *payload) {
+    if (!make_ready(link)) return NULL;
+    return answered(link, name, kmip_operation(link->client, name, "1.2", payload));
 }

@@ -93,6 +93,8 @@ static const OSSL_DISPATCH functions[] = {FUNCTION(OSSL_FUNC_DECODER_NEWCTX, dec
                                           FUNCTION(OSSL_FUNC_DECODER_DECODE, decode),
                                           END_OF_FUNCTIONS};
 
+/* OpenSSL has all decoders of PEM try a file, whatever the algorithm of each. So one hands over keys
+   of both, and no server is asked twice where it fails. */
 const OSSL_ALGORITHM provider_decoders[] = {
     {RSA_NAMES, PROPERTIES ",input=pem", functions, "files with a kmip: URI"},
     {NULL, NULL, NULL, NULL}};

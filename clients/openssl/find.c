@@ -29,20 +29,41 @@ static char *copy_of(const provider *prov, const char *text) {
     return made;
 }
 
-static const char *attribute(kmip_client *client, int index, const char *below) {
+/* Where the answer to `attributes` has what is asked for. It is a tree where one of them has a value
+   that `attributes` has no member for, as ECDSA. */
+typedef struct {
+    const char *all, *name, *type, *algorithm, *link_type, *linked;
+} places;
+
+static const places plain = {"attributes",           "name",
+                             "value.ObjectType",     "value.CryptographicAlgorithm",
+                             "value.Link.link_type", "value.Link.linked_object_identifier"};
+static const places tree = {
+    "Attribute",      "AttributeName",           "AttributeValue",
+    "AttributeValue", "AttributeValue.LinkType", "AttributeValue.LinkedObjectIdentifier"};
+
+static const char *attribute(kmip_client *client, const places *at, int index, const char *below) {
     char path[100];
-    int fits = BIO_snprintf(path, sizeof path, "attributes.%d.%s", index, below);
+    int fits = BIO_snprintf(path, sizeof path, "%s.%d.%s", at->all, index, below);
     return fits > 0 ? kmip_text(client, path, NULL) : NULL;
 }
 
-static void take_attribute(kmip_client *client, int index, about *into) {
-    const char *text = attribute(client, index, "value.ObjectType");
+/* The value of an attribute where it is the one with this name. */
+static const char *value_of(kmip_client *client, const places *at, int index, const char *name,
+                            const char *below) {
+    const char *text = attribute(client, at, index, at->name);
+    if (!text || (at == &tree && strcmp(text, name) != 0)) return NULL;
+    return attribute(client, at, index, below);
+}
+
+static void take_attribute(kmip_client *client, const places *at, int index, about *into) {
+    const char *text = value_of(client, at, index, "Object Type", at->type);
     if (text) OPENSSL_strlcpy(into->type, text, sizeof into->type);
-    text = attribute(client, index, "value.CryptographicAlgorithm");
+    text = value_of(client, at, index, "Cryptographic Algorithm", at->algorithm);
     if (text) OPENSSL_strlcpy(into->algorithm, text, sizeof into->algorithm);
-    text = attribute(client, index, "value.Link.link_type");
+    text = value_of(client, at, index, "Link", at->link_type);
     if (into->linked || !text || strcmp(text, "PublicKeyLink") != 0) return;
-    text = attribute(client, index, "value.Link.linked_object_identifier");
+    text = attribute(client, at, index, at->linked);
     if (text) into->linked = OPENSSL_strdup(text);
 }
 
@@ -51,8 +72,9 @@ static bool ask_about(connection *by, const char *id, about *into) {
                                kmip_text_word("Cryptographic Algorithm"), kmip_text_word("Link")};
     memset(into, 0, sizeof *into);
     kmip_client *client = connection_call(by, "attributes", words, 4);
-    for (int i = 0; client && attribute(client, i, "name"); i++)
-        take_attribute(client, i, into);
+    const places *at = client && attribute(client, &tree, 0, tree.name) ? &tree : &plain;
+    for (int i = 0; client && attribute(client, at, i, at->name); i++)
+        take_attribute(client, at, i, into);
     return client != NULL;
 }
 
@@ -132,14 +154,15 @@ static char *object_id(const provider *prov, connection *by, const uri *from, in
 
 /* Public keys and certificates */
 
-/* The public key of a PEM, which is PKCS #1 or SubjectPublicKeyInfo; null: there is none. */
+/* The public key of a PEM, which is PKCS #1 or SubjectPublicKeyInfo; null: there is none of RSA or of
+   a curve. */
 static EVP_PKEY *key_of_pem(const provider *prov, BIO *pem) {
     EVP_PKEY *key = NULL;
-    OSSL_DECODER_CTX *decoder = OSSL_DECODER_CTX_new_for_pkey(&key, "PEM", NULL, "RSA",
+    OSSL_DECODER_CTX *decoder = OSSL_DECODER_CTX_new_for_pkey(&key, "PEM", NULL, NULL,
                                                               EVP_PKEY_PUBLIC_KEY, prov->own, NULL);
     bool good = decoder && OSSL_DECODER_from_bio(decoder, pem);
     OSSL_DECODER_CTX_free(decoder);
-    if (good) return key;
+    if (good && key_type(key)) return key;
     EVP_PKEY_free(key);
     return NULL;
 }
@@ -161,9 +184,10 @@ static EVP_PKEY *key_of_file(const provider *prov, const char *path) {
     if (file && !key && BIO_reset(file) == 0) key = key_of_pem(prov, file);
     BIO_free(file);
     ERR_pop_to_mark();
-    if (key && EVP_PKEY_is_a(key, "RSA")) return key;
+    if (key && key_type(key)) return key;
     EVP_PKEY_free(key);
-    RAISE(prov, REASON_KEY, "%s cannot be read, or begins with no certificate or key of RSA in PEM",
+    RAISE(prov, REASON_KEY,
+          "%s cannot be read, or begins with no certificate or key in PEM, of RSA or a curve",
           path);
     return NULL;
 }
@@ -174,6 +198,7 @@ static BIO *get_pem(const provider *prov, connection *by, const char *id, const 
     kmip_client *client = connection_call(by, "get", &word, 1);
     if (!client) return NULL;
     const char *got = kmip_text(client, "object_type", NULL);
+    if (!got) got = kmip_text(client, "ObjectType", NULL); /* (of a tree, as for ECDSA) */
     bool good = got && strcmp(got, type) == 0;
     const char *pem = good ? kmip_pem(client) : NULL;
     if (!pem) {
@@ -195,7 +220,7 @@ static EVP_PKEY *get_public(const provider *prov, connection *by, const char *id
     EVP_PKEY *key = key_of_pem(prov, pem);
     ERR_pop_to_mark();
     BIO_free(pem);
-    if (!key) RAISE(prov, REASON_KEY, "the object %s is no public key of RSA", id);
+    if (!key) RAISE(prov, REASON_KEY, "the object %s is no public key of RSA or a curve", id);
     return key;
 }
 
@@ -236,18 +261,32 @@ static EVP_PKEY *public_of(const provider *prov, connection *by, const uri *from
     return public_by_name(prov, by, id, from->name ? from->name : from->any, false);
 }
 
+/* The type of a private key by its Cryptographic Algorithm; null: neither of the two. */
+static const char *type_of(const char *algorithm) {
+    if (strcmp(algorithm, "RSA") == 0) return TYPE_RSA;
+    return strcmp(algorithm, "ECDSA") == 0 || strcmp(algorithm, "EC") == 0 ? TYPE_EC : NULL;
+}
+
 static bool take_private(provider *prov, connection *by, const uri *from, const char *id,
                          const about *what, int wanted, object *into) {
-    if (strcmp(what->algorithm, "RSA") != 0)
-        return RAISE(prov, REASON_KEY, "the private key %s is one of %s, and not of RSA", id,
+    const char *type = type_of(what->algorithm);
+    if (!type)
+        return RAISE(prov, REASON_KEY,
+                     "the private key %s is one of %s, and neither of RSA nor of ECDSA", id,
                      *what->algorithm ? what->algorithm : "an unknown algorithm");
     EVP_PKEY *public = public_of(prov, by, from, id, what->linked);
     if (!public) return false;
+    if (key_type(public) != type) {
+        RAISE(prov, REASON_KEY, "the private key %s is one of %s, and the public one is not", id,
+              type);
+        EVP_PKEY_free(public);
+        return false;
+    }
     if (!(wanted & WANT_PRIVATE)) {
         into->public = public;
         return true;
     }
-    into->key = key_new(prov);
+    into->key = key_new(prov, type);
     if (!into->key) {
         EVP_PKEY_free(public);
         return false;
@@ -315,26 +354,27 @@ void object_free(object *one) {
 
 static int hand_over_key(const object *one, OSSL_CALLBACK *take_it, void *taker) {
     int type = OSSL_OBJECT_PKEY;
-    char name[] = "RSA";
     key_reference reference = {one->key};
-    OSSL_PARAM params[] = {OSSL_PARAM_construct_int(OSSL_OBJECT_PARAM_TYPE, &type),
-                           OSSL_PARAM_construct_utf8_string(OSSL_OBJECT_PARAM_DATA_TYPE, name, 0),
-                           OSSL_PARAM_construct_octet_string(OSSL_OBJECT_PARAM_REFERENCE,
-                                                             &reference, sizeof reference),
-                           OSSL_PARAM_construct_end()};
+    OSSL_PARAM params[] = {
+        OSSL_PARAM_construct_int(OSSL_OBJECT_PARAM_TYPE, &type),
+        OSSL_PARAM_construct_utf8_string(OSSL_OBJECT_PARAM_DATA_TYPE, (char *)one->key->type, 0),
+        OSSL_PARAM_construct_octet_string(OSSL_OBJECT_PARAM_REFERENCE, &reference,
+                                          sizeof reference),
+        OSSL_PARAM_construct_end()};
     return take_it(params, taker);
 }
 
 /* A public key is one of OpenSSL's own, for any use. */
 static int hand_over_public(const object *one, OSSL_CALLBACK *take_it, void *taker) {
     int type = OSSL_OBJECT_PKEY;
-    char name[] = "RSA", structure[] = "SubjectPublicKeyInfo";
+    char structure[] = "SubjectPublicKeyInfo";
     unsigned char *der = NULL;
     int length = i2d_PUBKEY(one->public, &der);
     if (length <= 0) return 0;
     OSSL_PARAM params[] = {
         OSSL_PARAM_construct_int(OSSL_OBJECT_PARAM_TYPE, &type),
-        OSSL_PARAM_construct_utf8_string(OSSL_OBJECT_PARAM_DATA_TYPE, name, 0),
+        OSSL_PARAM_construct_utf8_string(OSSL_OBJECT_PARAM_DATA_TYPE, (char *)key_type(one->public),
+                                         0),
         OSSL_PARAM_construct_utf8_string(OSSL_OBJECT_PARAM_DATA_STRUCTURE, structure, 0),
         OSSL_PARAM_construct_octet_string(OSSL_OBJECT_PARAM_DATA, der, (size_t)length),
         OSSL_PARAM_construct_end()};

@@ -1,11 +1,13 @@
-/* The hashes, and what algorithms are called in certificates (RFC 8017, A.2). */
+/* The hashes, and what algorithms are called in certificates (RFC 8017, A.2; RFC 5758, 3.2). */
 #include "provider.h"
 
 #include <openssl/err.h>
 #include <string.h>
 
-static const hash hashes[] = {
-    {"SHA224", 28, 4, 14}, {"SHA256", 32, 1, 11}, {"SHA384", 48, 2, 12}, {"SHA512", 64, 3, 13}};
+static const hash hashes[] = {{"SHA224", 28, 4, 14, 1},
+                              {"SHA256", 32, 1, 11, 2},
+                              {"SHA384", 48, 2, 12, 3},
+                              {"SHA512", 64, 3, 13, 4}};
 
 const hash *hash_of(const provider *prov, const char *name) {
     ERR_set_mark();
@@ -86,10 +88,18 @@ static void put_pss(writer *out, const hash *what, int salt) {
     put_pkcs1_oid(out, 10);
 }
 
-size_t hash_identify(const hash *digest, bool pss, int salt, uint8_t *into, size_t room) {
+/* (it has no parameters) */
+static void put_ecdsa(writer *out, const hash *what) {
+    uint8_t oid[] = {0x06, 0x08, 0x2A, 0x86, 0x48, 0xCE, 0x3D, 0x04, 0x03, what->ecdsa_oid_end};
+    prepend(out, oid, sizeof oid);
+}
+
+size_t hash_identify(const hash *digest, manner by, int salt, uint8_t *into, size_t room) {
     writer made = {.at = sizeof made.bytes};
-    if (pss && (salt < 0 || salt > 0x7FFF)) return 0;
-    if (pss) {
+    if (by == BY_PSS && (salt < 0 || salt > 0x7FFF)) return 0;
+    if (by == BY_ECDSA) {
+        put_ecdsa(&made, digest);
+    } else if (by == BY_PSS) {
         put_pss(&made, digest, salt);
     } else {
         put_null(&made);

@@ -93,6 +93,8 @@ int signature_set(void *given, const OSSL_PARAM params[]) {
     if (by_hash &&
         !(OSSL_PARAM_get_utf8_string_ptr(by_hash, &name) && signature_set_hash(ctx, name)))
         return 0;
+    if ((padding || salt || mask) && signature_manner(ctx) == BY_ECDSA)
+        return RAISE(ctx->provider, REASON_PARAMETERS, "ECDSA has no padding");
     return (!padding || set_padding(ctx, padding)) && (!salt || set_salt(ctx, salt)) &&
            (!mask || set_mask(ctx, mask));
 }
@@ -129,7 +131,7 @@ int signature_salt(const signature *ctx) {
 }
 
 bool signature_salt_can_be(const signature *ctx) {
-    if (ctx->padding != RSA_PKCS1_PSS_PADDING || signature_salt(ctx) == made_salt(ctx)) return true;
+    if (signature_manner(ctx) != BY_PSS || signature_salt(ctx) == made_salt(ctx)) return true;
     return RAISE(
         ctx->provider, REASON_PARAMETERS,
         "a PSS salt of %d bytes: by pss_salt the server makes %d, and KMIP 1.2 has no item "
@@ -140,8 +142,9 @@ bool signature_salt_can_be(const signature *ctx) {
 static int give_identifier(const signature *ctx, OSSL_PARAM *into) {
     uint8_t bytes[128];
     if (!ctx->hash || !ctx->key || !signature_salt_can_be(ctx)) return 0;
-    bool pss = ctx->padding == RSA_PKCS1_PSS_PADDING;
-    size_t count = hash_identify(ctx->hash, pss, signature_salt(ctx), bytes, sizeof bytes);
+    manner by = signature_manner(ctx);
+    int salt = by == BY_PSS ? signature_salt(ctx) : 0;
+    size_t count = hash_identify(ctx->hash, by, salt, bytes, sizeof bytes);
     return count && OSSL_PARAM_set_octet_string(into, bytes, count);
 }
 

@@ -125,7 +125,7 @@ static int set_text(OSSL_PARAM params[], const char *name, const char *text) {
 static int get(void *given, OSSL_PARAM params[]) {
     const provider *prov = given;
     OSSL_PARAM *status = OSSL_PARAM_locate(params, OSSL_PROV_PARAM_STATUS);
-    const char *name = prov->is_unable ? prov->unable : "RSA keys of a KMIP server (metsuwan)";
+    const char *name = prov->is_unable ? prov->unable : "keys of a KMIP server (metsuwan)";
     return set_text(params, OSSL_PROV_PARAM_NAME, name) &&
            set_text(params, OSSL_PROV_PARAM_VERSION, METSUWAN_VERSION) &&
            set_text(params, OSSL_PROV_PARAM_BUILDINFO, kmip_version()) &&

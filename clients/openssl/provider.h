@@ -1,4 +1,4 @@
-/* A provider for OpenSSL 3: RSA keys that stay on a KMIP server, over the client of metsuwan_tls.h.
+/* A provider for OpenSSL 3: keys of RSA and of curves that stay on a KMIP server, over the client of metsuwan_tls.h.
    docs/OPENSSL.md says what it does. */
 #ifndef METSUWAN_PROVIDER_H
 #define METSUWAN_PROVIDER_H
@@ -110,6 +110,9 @@ void connection_give_back(connection *link);
 kmip_client *connection_call(connection *link, const char *call, const kmip_word *words,
                              size_t count);
 
+/* The same of kmip_operation, with KMIP 1.2. */
+kmip_client *connection_operation(connection *link, const char *name, const char *payload);
+
 /* uri.c: kmip:NAME-OR-ID, or kmip: and name=value with a semicolon between two. */
 typedef struct {
     char *any, *id, *name, *public_id, *public_name, *public_file;
@@ -121,6 +124,7 @@ void uri_free(uri *parts);
 /* key.c: where the private part is, and the public part, which is OpenSSL's own. */
 typedef struct {
     provider *provider;
+    const char *type; /* OpenSSL's name of it: TYPE_RSA or TYPE_EC, by their addresses too */
     char *id;         /* the private key's identifier; null: this is a public key alone */
     EVP_PKEY *public; /* of the provider's own context; null: nothing is known yet */
     atomic_int references;
@@ -131,11 +135,16 @@ typedef struct {
     private_key *key;
 } key_reference;
 
-private_key *key_new(provider *prov);
+extern const char TYPE_RSA[], TYPE_EC[];
+
+/* The type of a public key; null: neither of the two. */
+const char *key_type(const EVP_PKEY *public);
+
+private_key *key_new(provider *prov, const char *type);
 private_key *key_take(private_key *key);
 void key_free(private_key *key);
 
-/* Has the server sign data, with a hash and a padding by their names of KMIP. */
+/* Has the server sign data, with a hash and, by RSA, a padding by their names of KMIP. */
 bool key_sign(const private_key *key, const char *by, const char *padding, const uint8_t *data,
               size_t count, uint8_t *into, size_t room, size_t *length);
 
@@ -160,14 +169,18 @@ int object_hand_over(const object *one, OSSL_CALLBACK *take, void *taker);
 typedef struct {
     const char *name; /* OpenSSL's and KMIP's */
     int size;
-    uint8_t oid_end, rsa_oid_end; /* the last bytes of the OIDs of it, and of RSA with it */
+    uint8_t oid_end;                    /* the last byte of its OID, .. */
+    uint8_t rsa_oid_end, ecdsa_oid_end; /* .. and of those of RSA and of ECDSA with it */
 } hash;
 
 const hash *hash_of(const provider *prov, const char *name);
 
-/* Writes an AlgorithmIdentifier as DER, for PKCS #1 v1.5, or for PSS with a salt of so many bytes:
-   how many bytes it has, or 0 where it does not fit. */
-size_t hash_identify(const hash *digest, bool pss, int salt, uint8_t *into, size_t room);
+/* How a signature is made. */
+typedef enum { BY_PKCS1, BY_PSS, BY_ECDSA } manner;
+
+/* Writes an AlgorithmIdentifier as DER, of PSS with a salt of so many bytes: how many bytes it has,
+   or 0 where it does not fit. */
+size_t hash_identify(const hash *digest, manner by, int salt, uint8_t *into, size_t room);
 
 /* signature.c and parameters.c */
 typedef struct {
@@ -178,6 +191,9 @@ typedef struct {
     uint8_t *data;
     size_t count, room;
 } signature;
+
+/* By the key that it has. */
+manner signature_manner(const signature *ctx);
 
 bool signature_set_hash(signature *ctx, const char *name);
 int signature_set(void *given, const OSSL_PARAM params[]);
@@ -193,9 +209,11 @@ bool signature_salt_can_be(const signature *ctx);
 extern const OSSL_ALGORITHM provider_stores[], provider_keymgmts[], provider_signatures[],
     provider_decoders[];
 
-/* No key of another provider asks for this name, so that none of theirs comes here. */
-#define SIGNATURE_NAME "KMIP-RSA"
+/* No key of another provider asks for these names, so that none of theirs comes here. */
+#define SIGNATURE_RSA "KMIP-RSA"
+#define SIGNATURE_EC "KMIP-ECDSA"
 #define RSA_NAMES "RSA:rsaEncryption:1.2.840.113549.1.1.1"
+#define EC_NAMES "EC:id-ecPublicKey:1.2.840.10045.2.1"
 #define PROPERTIES "provider=metsuwan"
 
 #define FUNCTION(id, ctx) \

@@ -85,8 +85,8 @@ static bool read_servers(provider *prov) {
     return refuse(prov, "server", what, how.server);
 }
 
-/* The first line of a file, which is to be its only one. */
-static bool read_line(provider *prov, const char *path, char **into) {
+/* The first line of the file that a setting names, which is to be its only one. */
+static bool read_line(provider *prov, const char *name, const char *path, char **into) {
     char line[1024] = "", more[2];
     ERR_set_mark();
     BIO *file = BIO_new_file(path, "r");
@@ -99,21 +99,29 @@ static bool read_line(provider *prov, const char *path, char **into) {
     bool good = whole && *line;
     if (good) *into = OPENSSL_strdup(line);
     OPENSSL_cleanse(line, sizeof line);
-    if (!file) return refuse(prov, "password_file", strerror(cause), path);
-    if (good) return *into || RAISE(prov, REASON_MEMORY, "the password");
-    return refuse(prov, "password_file", "is not one line of at most 1000 characters", path);
+    if (!file) return refuse(prov, name, strerror(cause), path);
+    if (good) return *into || RAISE(prov, REASON_MEMORY, "the setting %s", name);
+    return refuse(prov, name, "is not one line of at most 1000 characters", path);
+}
+
+/* A secret, which stands in a setting, or in the file that another one names. */
+static bool read_secret(provider *prov, const char *name, const char *file_name, char **into) {
+    const char *path = setting(prov, file_name);
+    if (!copy_setting(prov, name, into)) return false;
+    if (!path) return true;
+    if (*into) return refuse(prov, file_name, "and another setting exclude each other", name);
+    return read_line(prov, file_name, path, into);
 }
 
 static bool read_credential(provider *prov) {
-    const char *file = setting(prov, "password_file");
-    if (!copy_setting(prov, "user", &prov->settings.user) ||
-        !copy_setting(prov, "password", &prov->settings.password))
+    settings *set = &prov->settings;
+    if (!copy_setting(prov, "user", &set->user) ||
+        !read_secret(prov, "password", "password_file", &set->password))
         return false;
-    if (file && prov->settings.password)
-        return refuse(prov, "password_file", "and password exclude each other", NULL);
-    if (file && !read_line(prov, file, &prov->settings.password)) return false;
-    if (!prov->settings.user == !prov->settings.password) return true;
-    const char *name = prov->settings.user ? "user" : file ? "password_file" : "password";
+    if (!set->user == !set->password) return true;
+    const char *name = set->user                        ? "user"
+                       : setting(prov, "password_file") ? "password_file"
+                                                        : "password";
     return refuse(prov, name, "stands alone: a user and a password belong together", NULL);
 }
 
@@ -153,8 +161,8 @@ bool settings_read(provider *prov) {
     return read_servers(prov) && copy_setting(prov, "certificate", &set->certificate) &&
            copy_setting(prov, "key", &set->key) &&
            copy_setting(prov, "authority", &set->authority) &&
-           copy_setting(prov, "passphrase", &set->passphrase) && read_credential(prov) &&
-           read_numbers(prov) && read_salt(prov);
+           read_secret(prov, "passphrase", "passphrase_file", &set->passphrase) &&
+           read_credential(prov) && read_numbers(prov) && read_salt(prov);
 }
 
 static void secret_free(char *text) {

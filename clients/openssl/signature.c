@@ -44,6 +44,12 @@ static void *signature_dup(void *given) {
     return NULL;
 }
 
+manner signature_manner(const signature *ctx) {
+    return ctx->key && ctx->key->type == TYPE_EC   ? BY_ECDSA
+           : ctx->padding == RSA_PKCS1_PSS_PADDING ? BY_PSS
+                                                   : BY_PKCS1;
+}
+
 /* Operations over data */
 
 static bool begin(signature *ctx, const char *name, private_key *key, const OSSL_PARAM params[]) {
@@ -89,15 +95,16 @@ static int update(void *given, const unsigned char *data, size_t count) {
     return 1;
 }
 
-/* Verifies by OpenSSL's own RSA; a salt may be RSA_PSS_SALTLEN_AUTO, for any length. */
+/* Verifies by OpenSSL's own RSA or ECDSA; a salt may be RSA_PSS_SALTLEN_AUTO, for any length. */
 static bool verifies(const signature *ctx, const uint8_t *data, size_t count, const uint8_t *made,
                      size_t length, int salt) {
     EVP_MD_CTX *digest = EVP_MD_CTX_new();
     EVP_PKEY_CTX *how = NULL;
     bool good = digest && EVP_DigestVerifyInit_ex(digest, &how, ctx->hash->name, ctx->provider->own,
                                                   NULL, ctx->key->public, NULL) > 0;
-    good = good && EVP_PKEY_CTX_set_rsa_padding(how, ctx->padding) > 0;
-    if (ctx->padding == RSA_PKCS1_PSS_PADDING)
+    if (signature_manner(ctx) != BY_ECDSA)
+        good = good && EVP_PKEY_CTX_set_rsa_padding(how, ctx->padding) > 0;
+    if (signature_manner(ctx) == BY_PSS)
         good = good && EVP_PKEY_CTX_set_rsa_pss_saltlen(how, salt) > 0;
     good = good && EVP_DigestVerify(digest, made, length, data, count) == 1;
     EVP_MD_CTX_free(digest);
@@ -107,9 +114,9 @@ static bool verifies(const signature *ctx, const uint8_t *data, size_t count, co
 /* Whether the server's signature is one of the data, by the public key; else an error is raised. */
 static bool is_good(const signature *ctx, const uint8_t *data, size_t count, const uint8_t *made,
                     size_t length) {
-    bool pss = ctx->padding == RSA_PKCS1_PSS_PADDING;
+    bool pss = signature_manner(ctx) == BY_PSS;
     ERR_set_mark();
-    bool good = verifies(ctx, data, count, made, length, signature_salt(ctx));
+    bool good = verifies(ctx, data, count, made, length, pss ? signature_salt(ctx) : 0);
     bool other_salt =
         !good && pss && verifies(ctx, data, count, made, length, RSA_PSS_SALTLEN_AUTO);
     ERR_pop_to_mark();
@@ -203,5 +210,6 @@ static const OSSL_DISPATCH functions[] = {
     END_OF_FUNCTIONS};
 
 const OSSL_ALGORITHM provider_signatures[] = {
-    {SIGNATURE_NAME, PROPERTIES, functions, "signatures by a KMIP server"},
+    {SIGNATURE_RSA, PROPERTIES, functions, "signatures of RSA by a KMIP server"},
+    {SIGNATURE_EC, PROPERTIES, functions, "signatures of ECDSA by a KMIP server"},
     {NULL, NULL, NULL, NULL}};

@@ -14,6 +14,7 @@
 
    One line for each check, as the live test counts them. */
 #define _POSIX_C_SOURCE 200809L
+#include <openssl/core_names.h>
 #include <openssl/decoder.h>
 #include <openssl/err.h>
 #include <openssl/evp.h>
@@ -173,30 +174,40 @@ static void refusals(void) {
     unsigned char *der = NULL;
     check("the private key is not given out", i2d_PrivateKey(key, &der) <= 0 && !der);
     uint8_t made[ROOM];
-    size_t length = 100;
+    size_t length = 50;
     check("too little room is refused, and why",
-          !sign_by(key, "q", made, &length) && says("room is for 100"));
+          !sign_by(key, "q", made, &length) && says("room is for 50"));
     EVP_MD_CTX *digest = EVP_MD_CTX_new();
     check("SHA-1 is refused, and why",
           EVP_DigestSignInit_ex(digest, NULL, "SHA1", NULL, NULL, key, NULL) <= 0 &&
               says("SHA224, SHA256, SHA384 and SHA512 can be"));
+    char pss[] = OSSL_PKEY_RSA_PAD_MODE_PSS;
+    OSSL_PARAM padding[] = {OSSL_PARAM_construct_utf8_string(OSSL_SIGNATURE_PARAM_PAD_MODE, pss, 0),
+                            OSSL_PARAM_construct_end()};
+    if (EVP_PKEY_is_a(key, "EC"))
+        check("a padding of ECDSA is refused, and why",
+              EVP_DigestSignInit_ex(digest, NULL, "SHA256", NULL, NULL, key, padding) <= 0 &&
+                  says("ECDSA has no padding"));
     EVP_MD_CTX_free(digest);
-    context = EVP_PKEY_CTX_new_from_name(NULL, "RSA", "provider=metsuwan");
+    context = EVP_PKEY_CTX_new_from_name(NULL, EVP_PKEY_get0_type_name(key), "provider=metsuwan");
     check("no key is made by this provider, and why",
-          EVP_PKEY_keygen_init(context) <= 0 && says("make an RSA key on the server"));
+          EVP_PKEY_keygen_init(context) <= 0 && says("make a key on the server"));
     EVP_PKEY_CTX_free(context);
 }
 
 static void beside(void) {
-    EVP_PKEY *made = EVP_RSA_gen(2048), *twin = EVP_PKEY_dup(key);
+    bool is_rsa = EVP_PKEY_is_a(public_key, "RSA");
+    EVP_PKEY *made = is_rsa ? EVP_RSA_gen(2048) : EVP_EC_gen("P-256"), *twin = EVP_PKEY_dup(key);
     uint8_t of_it[ROOM];
     size_t length = sizeof of_it;
-    check("other RSA keys are made and sign as ever", made && sign_by(made, "q", of_it, &length));
+    check("other keys of its kind are made and sign as ever",
+          made && sign_by(made, "q", of_it, &length));
     check("which are not equal to it", EVP_PKEY_eq(made, key) == 0);
     check("but its public key and its duplicate are",
           EVP_PKEY_eq(public_key, key) == 1 && EVP_PKEY_eq(twin, key) == 1);
-    check("it is an RSA key of its size",
-          EVP_PKEY_is_a(key, "RSA") && EVP_PKEY_get_base_id(key) == EVP_PKEY_RSA &&
+    check("it is a key of its kind and size",
+          EVP_PKEY_is_a(key, EVP_PKEY_get0_type_name(public_key)) &&
+              EVP_PKEY_get_base_id(key) == EVP_PKEY_get_base_id(public_key) &&
               EVP_PKEY_get_bits(key) == EVP_PKEY_get_bits(public_key) &&
               EVP_PKEY_get_size(key) == EVP_PKEY_get_size(public_key));
     ERR_raise(ERR_LIB_USER, 1);

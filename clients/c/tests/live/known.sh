@@ -22,7 +22,7 @@ printf '%s\n' 'openssl_conf = a' '[a]' 'ssl_conf = b' '[b]' 'system_default = c'
 # With openssl.cnf that has the ciphers weak, and with such a context. The server reads no request.
 refused_by_weak() { # WHAT REGEX TEXT WORD..
     tls_server "${@:4}"
-    OPENSSL_CONF=$work/weak.cnf KMIP_TIMEOUT=3 call_is "$1: no connection" 3 query
+    OPENSSL_CONF=$work/weak.cnf KMIP_TIMEOUT=$((3 * slack)) call_is "$1: no connection" 3 query
     says "$1: it is said" "\"ConnectError\".*$2"
     test_run known "weak:$3"
     stop_tls_server

@@ -71,12 +71,13 @@ write_uri() { # URI FILE
 }
 
 # From here on $port is that of a signer.py, which writes its operations to the file $signed, whose process is $signer.
+# Its key is that of the file $signer_key, or one of RSA where that is not set.
 signer() { # [WRONG]
     local log
     log=$(mktemp "$work/signer.XXXXXX")
     signed=$log
     [[ -e $work/signer.key ]] || "${stock[@]}" genrsa -out "$work/signer.key" 2048 2>"$work/signer.err" || give_up 'no key'
-    OPENSSL_CONF=/dev/null "$python" -B "$own/signer.py" "$certs" "$work/signer.key" "$@" >"$log" 2>"$log.err" &
+    OPENSSL_CONF=/dev/null "$python" -B "$own/signer.py" "$certs" "${signer_key:-$work/signer.key}" "$@" >"$log" 2>"$log.err" &
     signer=$!
     started+=("$signer")
     disown "$signer"
@@ -125,4 +126,47 @@ run_program() { # WORD..
 # With a fork, in whose child the connections of the parent, and what they stand on, are left as they are and not freed.
 run_threads() { # URI COUNT
     ASAN_OPTIONS=detect_leaks=0 run_program threads "$@"
+}
+
+# Servers of TLS with the certificate tls.pem.
+client_reads() { # WHAT PORT tls1_2|tls1_3
+    printf 'GET / HTTP/1.0\r\n\r\n' | OPENSSL_CONF=/dev/null timeout $((20 * slack)) openssl s_client -connect "127.0.0.1:$2" \
+        -CAfile tls.pem -verify_return_error -verify_hostname localhost "-$3" -ign_eof >"$said" 2>&1
+    grep -q 'HTTP/1.* 200' "$said"
+    verdict "$1, $3 to s_client"
+}
+python_reads() { # WHAT PORT TLSv1_2|TLSv1_3
+    OPENSSL_CONF=/dev/null timeout $((20 * slack)) "$python" - "$2" "$3" $((20 * slack)) >"$said" 2>&1 <<'PY'
+import socket
+import ssl
+import sys
+context = ssl.create_default_context(cafile='tls.pem')
+context.minimum_version = context.maximum_version = ssl.TLSVersion[sys.argv[2]]
+plain = socket.create_connection(('127.0.0.1', int(sys.argv[1])), int(sys.argv[3]))
+with context.wrap_socket(plain, server_hostname='localhost') as wire:
+    wire.sendall(b'GET / HTTP/1.0\r\n\r\n')
+    assert b' 200' in wire.recv(4096)
+PY
+    verdict "$1, $3 to Python"
+}
+listens() { # PORT PROCESS
+    local try
+    for ((try = 0; try < 100 * slack; try++)); do
+        (exec 3<>"/dev/tcp/127.0.0.1/$1") 2>/dev/null && return
+        kill -0 "$2" 2>/dev/null || return
+        sleep 0.1
+    done
+    return 1
+}
+serve() { # WHAT -key URI
+    local own
+    own=$(free_port)
+    openssl s_server -accept "127.0.0.1:$own" -cert tls.pem "${@:2}" -www >"$work/s_server" 2>&1 </dev/null &
+    started+=($!)
+    listens "$own" $! || cat "$work/s_server"
+    client_reads "$1" "$own" tls1_2
+    client_reads "$1" "$own" tls1_3
+    python_reads "$1" "$own" TLSv1_2
+    python_reads "$1" "$own" TLSv1_3
+    kill "${started[-1]}"
 }

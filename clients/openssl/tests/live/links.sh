@@ -31,6 +31,15 @@ refuses 'a signature that is none, and why' 'signature does not verify.*by the k
 [[ ! -s never ]]
 verdict 'it is not given out'
 
+# A key of the program's own that is encrypted.
+signer
+"${stock[@]}" pkey -in "$key" -aes256 -passout pass:secret -out encrypted.key
+printf 'secret\n' >secret
+key=$work/encrypted.key configure "passphrase_file = $work/secret"
+does 'an encrypted key, with its passphrase in a file' openssl dgst -sha256 -sign "$uri" -out made /dev/null
+key=$work/encrypted.key configure
+refuses 'and without, and why' 'no passphrase is given' openssl dgst -sha256 -sign "$uri" -out never /dev/null
+
 # Files that hold a URI, beside those of other keys.
 signer
 configure

@@ -20,7 +20,7 @@ verdict 'one function can be seen from outside'
 does 'make install' make -s install BUILT="$built" OUT="$run/openssl" DESTDIR="$work/stage" MODULESDIR=/modules
 does 'what it leaves is loaded' env OPENSSL_CONF=/dev/null "OPENSSL_MODULES=$work/stage/modules" openssl list -providers \
     -provider default -provider metsuwan
-says 'as a provider' 'RSA keys of a KMIP server'
+says 'as a provider' 'keys of a KMIP server'
 mkdir "$work/none"
 printf '#!/bin/sh\nexit 1\n' >"$work/none/pkg-config" && chmod +x "$work/none/pkg-config"
 does 'make install, with no pkg-config' env "PATH=$work/none:$PATH" make -s install BUILT="$built" OUT="$run/openssl" \

@@ -15,7 +15,7 @@ right() { # WHAT NAME=VALUE..
     does "$1" "${words[@]}"
 }
 right 'no setting at all'
-says 'it names itself' 'RSA keys of a KMIP server \(metsuwan\)'
+says 'it names itself' 'keys of a KMIP server \(metsuwan\)'
 wrong 'seconds that are no number' 'METSUWAN_SECONDS is no number from 0 to 86400: soon' METSUWAN_SECONDS=soon
 wrong 'seconds below 0' 'METSUWAN_SECONDS is no number' METSUWAN_SECONDS=-1
 wrong 'endless seconds' 'METSUWAN_SECONDS is no number' METSUWAN_SECONDS=inf
@@ -30,6 +30,9 @@ printf 'two\nlines\n' >lines
 right 'a file of a password' METSUWAN_USER=alice "METSUWAN_PASSWORD_FILE=$work/password"
 wrong 'a password and a file of it' 'exclude each other' METSUWAN_USER=alice METSUWAN_PASSWORD=secret \
     "METSUWAN_PASSWORD_FILE=$work/password"
+wrong 'a passphrase and a file of it' 'METSUWAN_PASSPHRASE_FILE and another setting exclude each other: passphrase' \
+    METSUWAN_PASSPHRASE=secret "METSUWAN_PASSPHRASE_FILE=$work/password"
+wrong 'a file of a passphrase with two lines' 'METSUWAN_PASSPHRASE_FILE is not one line' "METSUWAN_PASSPHRASE_FILE=$work/lines"
 wrong 'no such file of a password' 'PASSWORD_FILE No such file or directory: /nowhere' METSUWAN_USER=a METSUWAN_PASSWORD_FILE=/nowhere
 wrong 'an empty one' 'is not one line' METSUWAN_USER=a "METSUWAN_PASSWORD_FILE=$work/empty"
 wrong 'one of two lines' 'is not one line' METSUWAN_USER=a "METSUWAN_PASSWORD_FILE=$work/lines"

@@ -6,7 +6,7 @@ printf '%s\n' 'openssl_conf = a' '[a]' 'ssl_conf = b' '[b]' 'system_default = c'
 own_key=(-cert "$certs/server.pem" -key "$certs/server.key")
 is_refused() { # WHAT REGEX WORD..
     tls_server "${@:3}"
-    OPENSSL_CONF=$work/weak.cnf KMIP_TIMEOUT=3 call_is "$1: no connection" 3 query
+    OPENSSL_CONF=$work/weak.cnf KMIP_TIMEOUT=$((3 * slack)) call_is "$1: no connection" 3 query
     says "$1: it is said" "$2"
     stop_tls_server
     # (the tag and the type of a Request Message, 42 00 78 01)
