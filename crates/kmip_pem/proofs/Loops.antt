@@ -1,0 +1,140 @@
+-- A turn of each loop.
+use Rattle.std.proofs.Common.{◌≡◌, ℕ, zero, suc, ◌+◌, ◌-◌, ◌<◌, ◌≤◌, min, Bool, true, false, not, cond, List, [], ◌∷◌, ◌++◌, length, take, drop, map, Option, Some, None, refl, sym, ap, subst, ◌∙◌, arith, append_assoc, length-drop}
+use Rattle.std.specs.Prelude.{nat_lt, option_map, if◌then◌else◌}
+use Rattle.std.specs.List.{onto_first, position, position_or_len}
+use Rattle.std.proofs.lemmas.List.{append-nil, take_min, drop_min, nil_from_length}
+use Rattle.std.proofs.lemmas.Bool.{ltb-true, ltb-false}
+use Rattle.std.proofs.lemmas.Option.{cond_some, none-some}
+use Rattle.kmip_pem.proofs.Tests.{by_test}
+use Rattle.kmip_pem.specs.Lines.{is_line_end, cut, is_white, before_left, without_back, text_of}
+use Rattle.kmip_pem.specs.Written.{cut_at_64, lines_of_64}
+
+-- ---- white space behind a line
+
+pub back_white : (line : List ℕ) (a : ℕ) → is_white a ≡ true → without_back (line ++ (a ∷ [])) ≡ without_back line
+back_white [] a h = rw h refl
+back_white (b ∷ line) a h = ap (before_left b) (back_white line a h)
+
+pub back_other : (line : List ℕ) (a : ℕ) → is_white a ≡ false → without_back (line ++ (a ∷ [])) ≡ line ++ (a ∷ [])
+back_other [] a h = rw h refl
+back_other (b ∷ []) a h = ap (before_left b) (back_other [] a h)
+back_other (b ∷ c ∷ line) a h = ap (before_left b) (back_other (c ∷ line) a h)
+
+-- ---- the first line
+
+abbrev end_of : List ℕ → ℕ
+end_of text = position_or_len is_line_end text
+
+ends_now : (a : ℕ) (text : List ℕ) → is_line_end a ≡ true → end_of (a ∷ text) ≡ 0
+ends_now a text t = ap (λ b. cond (not b) (1 + end_of text) 0) t
+
+ends_later : (a : ℕ) (text : List ℕ) → is_line_end a ≡ false → end_of (a ∷ text) ≡ suc (end_of text)
+ends_later a text f =
+    let one : 1 + end_of text ≡ suc (end_of text) = omega arith in
+    ap (λ b. cond (not b) (1 + end_of text) 0) f ∙ one
+
+cut_now : (a : ℕ) (text : List ℕ) → is_line_end a ≡ true → cut (a ∷ text) ≡ [] ∷ cut text
+cut_now a text t = ap (λ b. cond b ([] ∷ cut text) (onto_first a (cut text))) t
+
+cut_later : (a : ℕ) (text : List ℕ) → is_line_end a ≡ false → cut (a ∷ text) ≡ onto_first a (cut text)
+cut_later a text f = ap (λ b. cond b ([] ∷ cut text) (onto_first a (cut text))) f
+
+abbrev IsCutAt : List ℕ → ℕ → Type 0
+IsCutAt text n = cut text ≡ take n text ∷ cut (drop (n + 1) text)
+
+cut_further : (a : ℕ) (text : List ℕ) (n : ℕ) → is_line_end a ≡ false → IsCutAt text n → IsCutAt (a ∷ text) (suc n)
+cut_further a text n f h =
+    let here : cut (a ∷ text) ≡ take (suc n) (a ∷ text) ∷ cut (drop (suc (n + 1)) (a ∷ text)) =
+    cut_later a text f ∙ ap (onto_first a) h in
+    let more : suc (n + 1) ≡ suc n + 1 = omega arith in
+    here ∙ ap (λ k. take (suc n) (a ∷ text) ∷ cut (drop k (a ∷ text))) more
+
+cut_at : (text : List ℕ) → end_of text < length text → IsCutAt text (end_of text)
+cut_at [] h = absurd (omega arith)
+cut_at (a ∷ text) h =
+    let P : ℕ → Type 0 = λ n. IsCutAt (a ∷ text) n in
+    let Q : ℕ → Type 0 = λ n. n < suc (length text) in
+    by_test (is_line_end a)
+    (λ t. subst P (sym (ends_now a text t)) (cut_now a text t))
+    (λ f.
+    let long : suc (end_of text) < suc (length text) = subst Q (ends_later a text f) h in
+    subst P (sym (ends_later a text f)) (cut_further a text (end_of text) f (cut_at text (omega arith))))
+
+cut_none : (text : List ℕ) → length text ≤ end_of text → 0 < length text → cut text ≡ text ∷ []
+cut_none [] h l = absurd (omega arith)
+cut_none (a ∷ []) h l =
+    let Q : ℕ → Type 0 = λ n. 1 ≤ n in
+    by_test (is_line_end a)
+    (λ t. let none : 1 ≤ 0 = subst Q (ends_now a [] t) h in absurd (omega arith))
+    (λ f. cut_later a [] f)
+cut_none (a ∷ b ∷ text) h l =
+    let Q : ℕ → Type 0 = λ n. suc (length (b ∷ text)) ≤ n in
+    by_test (is_line_end a)
+    (λ t. let none : suc (length (b ∷ text)) ≤ 0 = subst Q (ends_now a (b ∷ text) t) h in absurd (omega arith))
+    (λ f.
+    let long : suc (length (b ∷ text)) ≤ suc (end_of (b ∷ text)) = subst Q (ends_later a (b ∷ text) f) h in
+    cut_later a (b ∷ text) f ∙ ap (onto_first a) (cut_none (b ∷ text) (omega arith) (omega arith)))
+
+pub first_ends : (text : List ℕ) (end : ℕ) → Some end ≡ position is_line_end text
+    → (cut text ≡ take end text ∷ cut (drop (end + 1) text)) × (end < length text)
+first_ends text end h =
+    let c = cond_some (nat_lt (end_of text) (length text)) (end_of text) end (sym h) in
+    let lt : end_of text < length text = ltb-true (end_of text) (length text) c.0 in
+    let P : ℕ → Type 0 = λ n. IsCutAt text n in
+    let Q : ℕ → Type 0 = λ n. n < length text in
+    (subst P c.1 (cut_at text lt), subst Q c.1 lt)
+
+beyond : (text : List ℕ) → None ≡ position is_line_end text → length text ≤ end_of text
+beyond text h =
+    by_test (nat_lt (end_of text) (length text))
+    (λ t. absurd (none-some (end_of text) (h ∙ ap (λ b. cond b (Some (end_of text)) None) t)))
+    (λ f. ltb-false (end_of text) (length text) f)
+
+pub first_is_last : (text : List ℕ) → None ≡ position is_line_end text → 0 < length text → cut text ≡ text ∷ []
+first_is_last text h l = cut_none text (beyond text h) l
+
+-- ---- digits
+
+pub nothing_more : (xs : List ℕ) → xs ++ [] ≡ xs
+nothing_more xs = append-nil xs
+
+pub digits_more : (digits line : List ℕ) (o : Option (List ℕ)) → option_map (λ more. (digits ++ line) ++ more) o
+    ≡ option_map (λ more. digits ++ more) (option_map (λ more. line ++ more) o)
+digits_more digits line None = refl
+digits_more digits line (Some more) = ap Some (append_assoc digits line more)
+
+-- ---- lines of 64
+
+fuel_same : (n m : ℕ) (digits : List ℕ) → length digits ≤ n → length digits ≤ m
+    → cut_at_64 n digits ≡ cut_at_64 m digits
+fuel_same zero zero digits h k = refl
+fuel_same zero (suc m) [] h k = refl
+fuel_same zero (suc m) (a ∷ digits) h k = absurd (omega arith)
+fuel_same (suc n) zero [] h k = refl
+fuel_same (suc n) zero (a ∷ digits) h k = absurd (omega arith)
+fuel_same (suc n) (suc m) [] h k = refl
+fuel_same (suc n) (suc m) (a ∷ digits) h k =
+    let rest : List ℕ = drop 64 (a ∷ digits) in
+    let short : length rest ≤ length digits = omega (arith, length-drop 64 (a ∷ digits)) in
+    ap (λ lines. take 64 (a ∷ digits) ∷ lines) (fuel_same n m rest (omega arith) (omega arith))
+
+lines_more : (digits : List ℕ) → 0 < length digits
+    → lines_of_64 digits ≡ take 64 digits ∷ lines_of_64 (drop 64 digits)
+lines_more [] h = absurd (omega arith)
+lines_more (a ∷ digits) h =
+    let rest : List ℕ = drop 64 (a ∷ digits) in
+    let short : length rest ≤ length digits = omega (arith, length-drop 64 (a ∷ digits)) in
+    let same : length rest ≤ length rest = omega arith in
+    ap (λ lines. take 64 (a ∷ digits) ∷ lines) (fuel_same (length digits) (length rest) rest short same)
+
+pub push_more : (out digits : List ℕ) → 0 < length digits
+    → ((out ++ take (min 64 (length digits)) digits) ++ (10 ∷ [])) ++ text_of (lines_of_64 (drop (min 64 (length digits)) digits))
+    ≡ out ++ text_of (lines_of_64 digits)
+push_more out digits h =
+    let line : List ℕ = take 64 digits in
+    let more : List ℕ = text_of (lines_of_64 (drop 64 digits)) in
+    ap (λ xs. ((out ++ xs) ++ (10 ∷ [])) ++ text_of (lines_of_64 (drop (min 64 (length digits)) digits))) (take_min 64 digits)
+    ∙ (ap (λ xs. ((out ++ line) ++ (10 ∷ [])) ++ text_of (lines_of_64 xs)) (drop_min 64 digits)
+    ∙ (append_assoc (out ++ line) (10 ∷ []) more
+    ∙ (append_assoc out line (10 ∷ more)
+    ∙ ap (λ lines. out ++ text_of lines) (sym (lines_more digits h)))))
