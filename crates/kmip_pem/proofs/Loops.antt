@@ -1,24 +1,14 @@
 -- A turn of each loop.
 use Rattle.std.proofs.Common.{◌≡◌, ℕ, zero, suc, ◌+◌, ◌-◌, ◌<◌, ◌≤◌, min, Bool, true, false, not, cond, List, [], ◌∷◌, ◌++◌, length, take, drop, map, Option, Some, None, refl, sym, ap, subst, ◌∙◌, arith, append_assoc, length-drop}
-use Rattle.std.specs.Prelude.{nat_lt, option_map, if◌then◌else◌}
+use Rattle.std.specs.Prelude.{nat_lt, if◌then◌else◌}
 use Rattle.std.specs.List.{onto_first, position, position_or_len}
-use Rattle.std.proofs.lemmas.List.{append-nil, take_min, drop_min, nil_from_length}
+use Rattle.std.proofs.lemmas.List.{append-nil, take_min, drop_min, drop_all}
 use Rattle.std.proofs.lemmas.Bool.{ltb-true, ltb-false}
 use Rattle.std.proofs.lemmas.Option.{cond_some, none-some}
 use Rattle.kmip_pem.proofs.Tests.{by_test}
-use Rattle.kmip_pem.specs.Lines.{is_line_end, cut, is_white, before_left, without_back, text_of}
+use Rattle.kmip_pem.specs.Lines.{is_line_end, cut, trimmed, lines_in, text_of}
+use Rattle.kmip_pem.specs.Pem.{before_digits}
 use Rattle.kmip_pem.specs.Written.{cut_at_64, lines_of_64}
-
--- ---- white space behind a line
-
-pub back_white : (line : List ℕ) (a : ℕ) → is_white a ≡ true → without_back (line ++ (a ∷ [])) ≡ without_back line
-back_white [] a h = rw h refl
-back_white (b ∷ line) a h = ap (before_left b) (back_white line a h)
-
-pub back_other : (line : List ℕ) (a : ℕ) → is_white a ≡ false → without_back (line ++ (a ∷ [])) ≡ line ++ (a ∷ [])
-back_other [] a h = rw h refl
-back_other (b ∷ []) a h = ap (before_left b) (back_other [] a h)
-back_other (b ∷ c ∷ line) a h = ap (before_left b) (back_other (c ∷ line) a h)
 
 -- ---- the first line
 
@@ -75,8 +65,7 @@ cut_none (a ∷ b ∷ text) h l =
     let long : suc (length (b ∷ text)) ≤ suc (end_of (b ∷ text)) = subst Q (ends_later a (b ∷ text) f) h in
     cut_later a (b ∷ text) f ∙ ap (onto_first a) (cut_none (b ∷ text) (omega arith) (omega arith)))
 
-pub first_ends : (text : List ℕ) (end : ℕ) → Some end ≡ position is_line_end text
-    → (cut text ≡ take end text ∷ cut (drop (end + 1) text)) × (end < length text)
+first_ends : (text : List ℕ) (end : ℕ) → Some end ≡ position is_line_end text → IsCutAt text end × (end < length text)
 first_ends text end h =
     let c = cond_some (nat_lt (end_of text) (length text)) (end_of text) end (sym h) in
     let lt : end_of text < length text = ltb-true (end_of text) (length text) c.0 in
@@ -84,24 +73,48 @@ first_ends text end h =
     let Q : ℕ → Type 0 = λ n. n < length text in
     (subst P c.1 (cut_at text lt), subst Q c.1 lt)
 
+pub first_within : (text : List ℕ) (end : ℕ) → Some end ≡ position is_line_end text → end < length text
+first_within text end h = (first_ends text end h).1
+
+pub lines_first : (text : List ℕ) (end : ℕ) → Some end ≡ position is_line_end text
+    → lines_in text ≡ trimmed (take end text) ∷ lines_in (drop (end + 1) text)
+unfolding lines_in
+lines_first text end h = ap (map trimmed) (first_ends text end h).0
+
 beyond : (text : List ℕ) → None ≡ position is_line_end text → length text ≤ end_of text
 beyond text h =
     by_test (nat_lt (end_of text) (length text))
     (λ t. absurd (none-some (end_of text) (h ∙ ap (λ b. cond b (Some (end_of text)) None) t)))
     (λ f. ltb-false (end_of text) (length text) f)
 
-pub first_is_last : (text : List ℕ) → None ≡ position is_line_end text → 0 < length text → cut text ≡ text ∷ []
-first_is_last text h l = cut_none text (beyond text h) l
+pub lines_last : (text : List ℕ) → None ≡ position is_line_end text → 0 < length text
+    → lines_in text ≡ trimmed text ∷ lines_in (drop (length text) text)
+unfolding lines_in
+lines_last text h l =
+    let none : cut (drop (length text) text) ≡ [] = ap cut (drop_all (length text) text (omega arith)) in
+    ap (map trimmed) (cut_none text (beyond text h) l) ∙ ap (λ xs. trimmed text ∷ map trimmed xs) (sym none)
+
+pub no_lines : (text : List ℕ) → length text ≤ 0 → lines_in text ≡ []
+unfolding lines_in
+no_lines [] h = refl
+no_lines (a ∷ text) h = absurd (omega arith)
 
 -- ---- digits
 
-pub nothing_more : (xs : List ℕ) → xs ++ [] ≡ xs
-nothing_more xs = append-nil xs
+pub digits_none : (o : Option (List ℕ)) → before_digits [] o ≡ o
+unfolding before_digits
+digits_none None = refl
+digits_none (Some more) = refl
 
-pub digits_more : (digits line : List ℕ) (o : Option (List ℕ)) → option_map (λ more. (digits ++ line) ++ more) o
-    ≡ option_map (λ more. digits ++ more) (option_map (λ more. line ++ more) o)
+pub digits_more : (digits line : List ℕ) (o : Option (List ℕ))
+    → before_digits (digits ++ line) o ≡ before_digits digits (before_digits line o)
+unfolding before_digits
 digits_more digits line None = refl
 digits_more digits line (Some more) = ap Some (append_assoc digits line more)
+
+pub digits_end : (digits : List ℕ) → before_digits digits (Some []) ≡ Some digits
+unfolding before_digits
+digits_end digits = ap Some (append-nil digits)
 
 -- ---- lines of 64
 

@@ -1,5 +1,5 @@
 -- What is read is a PEM.
-use Rattle.std.proofs.Common.{◌≡◌, ℕ, zero, suc, ◌<◌, Bool, true, false, ◌||◌, List, [], ◌∷◌, ◌++◌, slice_index, map, Option, Some, None, Result, Ok, Err, refl, sym, ap, subst, ◌∙◌, cond, arith}
+use Rattle.std.proofs.Common.{◌≡◌, ℕ, zero, suc, ◌<◌, Bool, true, false, ◌||◌, List, [], ◌∷◌, ◌++◌, slice_index, reverse, map, Option, Some, None, Result, Ok, Err, refl, sym, ap, subst, ◌∙◌, cond, arith}
 use Rattle.std.specs.Prelude.{bytes_eq, nat_lt, if◌then◌else◌}
 use Rattle.std.specs.List.{list_all, concat, onto_first}
 use Rattle.std.proofs.lemmas.Bool.{and_parts, and_from, ltb-true, lt-ltb}
@@ -12,10 +12,10 @@ use Rattle.kmip_pem.specs.declared.labels.Label.{Label}
 use Rattle.kmip_pem.specs.declared.labels.Label.TheVariants.{RsaPublicKey, PublicKey, RsaPrivateKey, PrivateKey, EcPrivateKey, Certificate}
 use Rattle.kmip_pem.specs.declared.refusal.NoPem.{NoPem}
 use Rattle.kmip_pem.specs.declared.refusal.NoPem.TheVariants.{Encrypted}
-use Rattle.kmip_pem.specs.Lines.{is_line_end, cut, is_white, without_front, before_left, without_back, trimmed, lines_in}
+use Rattle.kmip_pem.specs.Lines.{is_line_end, cut, is_white, without_white, trimmed, lines_in}
 use Rattle.kmip_pem.specs.Labels.{label_text, label_named, begin_line, end_line}
 use Rattle.kmip_pem.specs.Pem.{Begun, Pem, IsPem, first_begun, digits_in, is_encrypted, decoded_by, decoded, read_digits, read_labelled, read_block, read_alone, read_first, pem_in}
-use Rattle.kmip_pem.proofs.Tests.{by_test, all_split, all_concat}
+use Rattle.kmip_pem.proofs.Tests.{by_test, all_split, all_reverse, all_concat}
 use Rattle.kmip_pem.proofs.Marks.{same_bytes}
 use Rattle.kmip_pem.proofs.First.{Split, first_split, none_behind}
 use Rattle.kmip_pem.proofs.Digits.{Ended, digits_split}
@@ -37,23 +37,18 @@ all_cut p (a ∷ text) h =
     let rest = all_cut p text both.1 in
     by_test (is_line_end a) (λ t. rw t rest) (λ f. rw f (all_onto p a (cut text) both.0 rest))
 
-all_front : (p : ℕ → Bool) (line : List ℕ) → list_all p line ≡ true → list_all p (without_front line) ≡ true
+all_front : (p : ℕ → Bool) (line : List ℕ) → list_all p line ≡ true → list_all p (without_white line) ≡ true
 all_front p [] h = refl
 all_front p (a ∷ line) h =
     by_test (is_white a)
     (λ t. rw t (all_front p line (and_parts (p a) (list_all p line) h).1))
     (λ f. rw f h)
 
-all_left : (p : ℕ → Bool) (a : ℕ) (left : List ℕ) → p a ≡ true → list_all p left ≡ true
-    → list_all p (before_left a left) ≡ true
-all_left p a [] h k = by_test (is_white a) (λ t. rw t refl) (λ f. rw f (rw h refl))
-all_left p a (b ∷ left) h k = and_from (p a) (list_all p (b ∷ left)) h k
-
-all_back : (p : ℕ → Bool) (line : List ℕ) → list_all p line ≡ true → list_all p (without_back line) ≡ true
-all_back p [] h = refl
-all_back p (a ∷ line) h =
-    let both = and_parts (p a) (list_all p line) h in
-    all_left p a (without_back line) both.0 (all_back p line both.1)
+all_one : (p : ℕ → Bool) (line : List ℕ) → list_all p line ≡ true → list_all p (trimmed line) ≡ true
+all_one p line h =
+    let front : List ℕ = without_white line in
+    all_reverse p (without_white (reverse front))
+    (all_front p (reverse front) (all_reverse p front (all_front p line h)))
 
 all_trimmed : (p : ℕ → Bool) (lines : List (List ℕ)) → list_all (list_all p) lines ≡ true
     → list_all (list_all p) (map trimmed lines) ≡ true
@@ -61,7 +56,7 @@ all_trimmed p [] h = refl
 all_trimmed p (line ∷ lines) h =
     let both = and_parts (list_all p line) (list_all (list_all p) lines) h in
     and_from (list_all p (trimmed line)) (list_all (list_all p) (map trimmed lines))
-    (all_back p (without_front line) (all_front p line both.0)) (all_trimmed p lines both.1)
+    (all_one p line both.0) (all_trimmed p lines both.1)
 
 abbrev is_octet : ℕ → Bool
 is_octet a = nat_lt a 256
@@ -137,6 +132,10 @@ based label (Ok bytes) pem h =
 abbrev octet_lines : List (List ℕ) → Type 0
 octet_lines lines = list_all (list_all is_octet) lines ≡ true
 
+octets_in : (text : List ℕ) → IsBytes text → octet_lines (lines_in text)
+unfolding lines_in
+octets_in text h = all_trimmed is_octet (cut text) (all_cut is_octet text (octets text h))
+
 digits_octets : (label : List ℕ) (lines : List (List ℕ)) (block : Begun) (digits : List ℕ) → octet_lines lines
     → Split lines block → Ended label block.behind digits → IsBytes digits
 digits_octets label lines block digits h s e =
@@ -158,7 +157,7 @@ read_is text pem h k r =
     let b = based l.0 (decode_of standard d.0) pem d.2 in
     let s = first_split (lines_in text) block one.1 in
     let e = digits_split block.label block.behind d.0 d.1 in
-    let lines : octet_lines (lines_in text) = all_trimmed is_octet (cut text) (all_cut is_octet text (octets text h)) in
+    let lines = octets_in text h in
     let octet_digits = digits_octets block.label (lines_in text) block d.0 lines s e in
     let name : block.label ≡ label_text pem.label = named_is block.label l.0 l.1 ∙ ap label_text b.1 in
     let whole = s.1 ∙ ap (λ xs. s.0 ++ (begin_line block.label ∷ xs)) e.2 in

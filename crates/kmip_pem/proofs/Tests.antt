@@ -1,8 +1,8 @@
 -- Tests of each element of a list.
-use Rattle.std.proofs.Common.{◌≡◌, ℕ, ◌+◌, ◌≤◌, Bool, true, false, not, ◌&&◌, List, [], ◌∷◌, ◌++◌, take, drop, refl, sym, ap, ◌∙◌}
+use Rattle.std.proofs.Common.{◌≡◌, ℕ, ◌+◌, ◌≤◌, Bool, true, false, not, ◌&&◌, List, [], ◌∷◌, ◌++◌, take, drop, reverse, refl, sym, ap, ◌∙◌}
 use Rattle.std.specs.List.{list_all, concat}
 use Rattle.std.proofs.lemmas.Bool.{and_parts, and_from}
-use Rattle.std.proofs.lemmas.List.{take-append-drop}
+use Rattle.std.proofs.lemmas.List.{take-append-drop, reverse-append}
 
 pub by_test : {P : Type 0} (b : Bool) → (b ≡ true → P) → (b ≡ false → P) → P
 by_test true t f = t refl
@@ -30,6 +30,14 @@ all_split p (x ∷ xs) ys h =
     let parts = and_parts (p x) (list_all p (xs ++ ys)) h in
     let rest = all_split p xs ys parts.1 in
     (and_from (p x) (list_all p xs) parts.0 rest.0, rest.1)
+
+pub all_reverse : {X : Type 0} (p : X → Bool) (xs : List X) → list_all p xs ≡ true → list_all p (reverse xs) ≡ true
+all_reverse p [] h = refl
+all_reverse p (x ∷ xs) h =
+    let parts = and_parts (p x) (list_all p xs) h in
+    let last = and_from (p x) true parts.0 refl in
+    ap (list_all p) (reverse-append (x ∷ []) xs)
+    ∙ all_append p (reverse xs) (x ∷ []) (all_reverse p xs parts.1) last
 
 pub all_take : {X : Type 0} (p : X → Bool) (n : ℕ) (xs : List X) → list_all p xs ≡ true → list_all p (take n xs) ≡ true
 all_take p n xs h =

@@ -1,19 +1,19 @@
 -- What is written has the lines that it was written in, and is read.
-use Rattle.std.proofs.Common.{◌≡◌, ℕ, zero, suc, ◌+◌, ◌-◌, ◌≤◌, ◌==◌, Bool, true, false, not, ◌&&◌, List, [], ◌∷◌, ◌++◌, length, take, drop, map, Option, Some, None, refl, sym, ap, ◌∙◌, arith, length-drop}
+use Rattle.std.proofs.Common.{◌≡◌, ℕ, zero, suc, ◌+◌, ◌-◌, ◌≤◌, ◌==◌, Bool, true, false, not, ◌&&◌, List, [], ◌∷◌, ◌++◌, length, take, drop, reverse, map, Option, Some, None, refl, sym, ap, ◌∙◌, arith, length-drop}
 use Rattle.std.specs.Prelude.{if◌then◌else◌}
 use Rattle.std.specs.List.{list_all, concat, onto_first}
 use Rattle.std.proofs.lemmas.Bool.{and_parts, and_from}
-use Rattle.std.proofs.lemmas.List.{take-append-drop}
+use Rattle.std.proofs.lemmas.List.{take-append-drop, reverse-reverse}
 use Rattle.std.proofs.lemmas.Option.{same_Some}
 use Rattle.base64.specs.GeneralPurpose.{encode_of, IsBytes}
 use Rattle.base64.specs.Engines.{standard}
 use Rattle.kmip_pem.specs.declared.labels.Label.{Label}
 use Rattle.kmip_pem.specs.declared.labels.Label.TheVariants.{RsaPublicKey, PublicKey, RsaPrivateKey, PrivateKey, EcPrivateKey, Certificate}
-use Rattle.kmip_pem.specs.Lines.{is_line_end, cut, is_white, without_front, before_left, without_back, trimmed, lines_in, text_of}
+use Rattle.kmip_pem.specs.Lines.{is_line_end, cut, is_white, without_white, trimmed, lines_in, text_of}
 use Rattle.kmip_pem.specs.Labels.{label_text, label_named, begin_line, end_line, is_private, is_public}
 use Rattle.kmip_pem.specs.Pem.{Begun, IsPem, first_begun}
 use Rattle.kmip_pem.specs.Written.{cut_at_64, lines_of_64, pem_lines, pem_text}
-use Rattle.kmip_pem.proofs.Tests.{not_so, all_take, all_drop}
+use Rattle.kmip_pem.proofs.Tests.{not_so, all_reverse, all_take, all_drop}
 use Rattle.kmip_pem.proofs.Plain.{is_plain, no_white, plain_no_end, encoded_plain}
 use Rattle.kmip_pem.proofs.First.{first_found}
 use Rattle.kmip_pem.proofs.Exact.{named_back, no_parameters, first_of}
@@ -39,6 +39,7 @@ cut_line (a ∷ line) text h =
     rw e (ap (onto_first a) (cut_line line text parts.1))
 
 lines_back : (lines : List (List ℕ)) → AreTidy lines → lines_in (text_of lines) ≡ lines
+unfolding lines_in
 lines_back [] h = refl
 lines_back (line ∷ lines) h =
     let tidy : IsTidy line = h.0 in
@@ -54,25 +55,19 @@ plain_within (a ∷ line) h =
     let e = ap not (plain_no_end a parts.0) in
     and_from (is_within a) (list_all is_within line) e (plain_within line parts.1)
 
-plain_front : (line : List ℕ) → list_all is_plain line ≡ true → without_front line ≡ line
+plain_front : (line : List ℕ) → list_all is_plain line ≡ true → without_white line ≡ line
 plain_front [] h = refl
 plain_front (a ∷ line) h =
     let w = no_white a (and_parts (is_plain a) (list_all is_plain line) h).0 in
     rw w refl
 
-alone_left : (a : ℕ) → is_plain a ≡ true → before_left a [] ≡ a ∷ []
-alone_left a h = let w = no_white a h in rw w refl
-
-plain_back : (line : List ℕ) → list_all is_plain line ≡ true → without_back line ≡ line
-plain_back [] h = refl
-plain_back (a ∷ []) h = alone_left a (and_parts (is_plain a) true h).0
-plain_back (a ∷ b ∷ line) h =
-    let parts = and_parts (is_plain a) (list_all is_plain (b ∷ line)) h in
-    ap (before_left a) (plain_back (b ∷ line) parts.1)
+plain_trimmed : (line : List ℕ) → list_all is_plain line ≡ true → trimmed line ≡ line
+plain_trimmed line h =
+    ap (λ xs. reverse (without_white (reverse xs))) (plain_front line h)
+    ∙ (ap reverse (plain_front (reverse line) (all_reverse is_plain line h)) ∙ reverse-reverse line)
 
 plain_tidy : (line : List ℕ) → list_all is_plain line ≡ true → IsTidy line
-plain_tidy line h =
-    record { within = plain_within line h; same = ap without_back (plain_front line h) ∙ plain_back line h }
+plain_tidy line h = record { within = plain_within line h; same = plain_trimmed line h }
 
 tidy_begin : (label : Label) → IsTidy (begin_line (label_text label))
 tidy_begin RsaPublicKey = record { within = refl; same = refl }

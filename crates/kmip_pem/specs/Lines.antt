@@ -1,5 +1,5 @@
 -- A text as its lines, without the white space round each (RFC 7468, 3).
-use Rattle.std.specs.Prelude.{ℕ, ◌==◌, nat_le, Bool, ◌&&◌, ◌||◌, List, [], ◌∷◌, ◌++◌, map, if◌then◌else◌}
+use Rattle.std.specs.Prelude.{ℕ, ◌==◌, nat_le, Bool, ◌&&◌, ◌||◌, List, [], ◌∷◌, ◌++◌, map, reverse, if◌then◌else◌}
 use Rattle.std.specs.List.{onto_first}
 
 -- LF or CR: between the two of CRLF is an empty line
@@ -15,23 +15,16 @@ cut (a ∷ text) = if is_line_end a then [] ∷ cut text else onto_first a (cut 
 abbrev pub is_white : ℕ → Bool
 is_white a = a == 32 || (nat_le 9 a && nat_le a 13)
 
-abbrev pub without_front : List ℕ → List ℕ
-without_front [] = []
-without_front (a ∷ line) = if is_white a then without_front line else a ∷ line
+-- a line without the white space before it
+abbrev pub without_white : List ℕ → List ℕ
+without_white [] = []
+without_white (a ∷ line) = if is_white a then without_white line else a ∷ line
 
--- a byte before what is left of a line
-abbrev pub before_left : ℕ → List ℕ → List ℕ
-before_left a [] = if is_white a then [] else a ∷ []
-before_left a (b ∷ left) = a ∷ b ∷ left
-
-abbrev pub without_back : List ℕ → List ℕ
-without_back [] = []
-without_back (a ∷ line) = before_left a (without_back line)
-
+-- and without that behind it
 abbrev pub trimmed : List ℕ → List ℕ
-trimmed line = without_back (without_front line)
+trimmed line = reverse (without_white (reverse (without_white line)))
 
-abbrev pub lines_in : List ℕ → List (List ℕ)
+unfoldable pub lines_in : List ℕ → List (List ℕ)
 lines_in text = map trimmed (cut text)
 
 -- lines as a text

@@ -1,5 +1,5 @@
 -- What is read of a text: its one block (RFC 7468, 2 and 3), or why there is none.
-use Rattle.std.specs.Prelude.{◌≡◌, ℕ, Bool, true, false, ◌&&◌, ◌||◌, List, [], ◌∷◌, ◌++◌, Option, Some, None, option_map, Result, Ok, Err, codes, bytes_eq, if◌then◌else◌, is_some}
+use Rattle.std.specs.Prelude.{◌≡◌, ℕ, Bool, true, false, ◌&&◌, ◌||◌, List, [], ◌∷◌, ◌++◌, Option, Some, None, Result, Ok, Err, codes, bytes_eq, if◌then◌else◌, is_some}
 use Rattle.std.specs.Option.{option_or}
 use Rattle.std.specs.List.{concat}
 use Rattle.base64.specs.GeneralPurpose.{encode_of, decode_of, IsBytes}
@@ -61,11 +61,16 @@ pub record Pem : Type 0 where
   pub label : Label
   pub bytes : List ℕ
 
+-- a line before the digits behind it, if there are any
+unfoldable pub before_digits : List ℕ → Option (List ℕ) → Option (List ℕ)
+before_digits line None = None
+before_digits line (Some digits) = Some (line ++ digits)
+
 -- the digits of a block to its end; none where it has no end
 abbrev pub digits_in : List ℕ → List (List ℕ) → Option (List ℕ)
 digits_in label [] = None
 digits_in label (line ∷ lines) =
-    if ends label line then Some [] else option_map (λ digits. line ++ digits) (digits_in label lines)
+    if ends label line then Some [] else before_digits line (digits_in label lines)
 
 abbrev pub decoded_by : Label → Result (List ℕ) DecodeError → Result Pem NoPem
 decoded_by label (Err e) = Err NoBase64

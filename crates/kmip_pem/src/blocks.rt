@@ -19,6 +19,7 @@ pub(crate) struct Begun<'a> {
 }
 
 /// Whether a text ends the block of this label before another begins.
+#[tactic(auto, using(crate::proofs::Loops::no_lines))]
 fn is_closed(label: &[u8], text: &[u8]) -> bool
     ensures { result ≡ is_closed label.now (lines_in text.now) }
 {
@@ -44,6 +45,7 @@ fn is_aside(label: &[u8], behind: &[u8]) -> bool
 }
 
 /// The first block that begins in a text, but for those of parameters.
+#[tactic(auto, using(crate::proofs::Loops::no_lines))]
 pub(crate) fn first_begun<'a>(text: &'a [u8]) -> Option<Begun<'a>>
     ensures { option_map begun_view result ≡ first_begun (lines_in text.now) }
 {
@@ -64,6 +66,7 @@ pub(crate) fn first_begun<'a>(text: &'a [u8]) -> Option<Begun<'a>>
 }
 
 /// Whether the first line is the header of an encrypted key (RFC 1421, 4.6.1.1).
+#[tactic(auto, using(crate::proofs::Loops::no_lines))]
 pub(crate) fn has_header(text: &[u8]) -> bool
     ensures { result ≡ has_header (lines_in text.now) }
 {
@@ -71,7 +74,7 @@ pub(crate) fn has_header(text: &[u8]) -> bool
 }
 
 /// The digits of a block to its end; none where it has no end.
-#[tactic(auto, using(crate::proofs::Loops::digits_more, crate::proofs::Loops::nothing_more))]
+#[tactic(auto, using(crate::proofs::Loops::digits_none, crate::proofs::Loops::digits_more, crate::proofs::Loops::digits_end, crate::proofs::Loops::no_lines))]
 pub(crate) fn digits_in(
     alloc: Global,
     label: &[u8],

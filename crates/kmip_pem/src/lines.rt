@@ -1,6 +1,6 @@
 //! A text as its lines.
-ghost use Rattle.std.specs.Prelude.{◌≡◌, ◌<◌, ◌∷◌, length};
-ghost use Rattle.kmip_pem.specs.Lines.{is_line_end, is_white, without_front, without_back, trimmed};
+ghost use Rattle.std.specs.Prelude.{◌≡◌, ◌<◌, ◌∷◌, length, reverse};
+ghost use Rattle.kmip_pem.specs.Lines.{is_line_end, is_white, without_white, trimmed};
 ghost use Rattle.kmip_pem.specs.Lines.{lines_in};
 ghost use Rattle.std.specs.List.{position};
 
@@ -28,39 +28,34 @@ fn is_white(byte: u8) -> bool
 }
 
 /// A line without the white space before it.
-fn without_front<'a>(line: &'a [u8]) -> &'a [u8]
-    ensures { result.now ≡ without_front line.now }
+fn trim_start(mut line: &[u8]) -> &[u8]
+    ensures { result.now ≡ without_white line.now }
 {
-    let mut rest = line;
-    while let [first, behind @ ..] = rest {
-        if !is_white(*first) {
-            return rest;
-        }
-        rest = behind;
+    while let [first, rest @ ..] = line
+        && is_white(*first)
+    {
+        line = rest;
     }
-    rest
+    line
 }
 
 /// A line without the white space behind it.
-#[tactic(auto, using(crate::proofs::Loops::back_white, crate::proofs::Loops::back_other))]
-fn without_back<'a>(line: &'a [u8]) -> &'a [u8]
-    ensures { result.now ≡ without_back line.now }
+fn trim_end(mut line: &[u8]) -> &[u8]
+    ensures { result.now ≡ reverse (without_white (reverse line.now)) }
 {
-    let mut rest = line;
-    while let [before @ .., last] = rest {
-        if !is_white(*last) {
-            return rest;
-        }
-        rest = before;
+    while let [rest @ .., last] = line
+        && is_white(*last)
+    {
+        line = rest;
     }
-    rest
+    line
 }
 
 /// A line without the white space round it.
-fn trimmed<'a>(line: &'a [u8]) -> &'a [u8]
+fn trimmed(line: &[u8]) -> &[u8]
     ensures { result.now ≡ trimmed line.now }
 {
-    without_back(without_front(line))
+    trim_end(trim_start(line))
 }
 
 /// Where the first line of a text ends.
@@ -71,7 +66,6 @@ fn line_end(text: &[u8]) -> Option<usize>
 }
 
 /// The first line of a text that is not empty.
-#[tactic(auto, using(crate::proofs::Loops::first_ends, crate::proofs::Loops::first_is_last))]
 pub(crate) fn first_line<'a>(text: &'a [u8]) -> Line<'a>
     requires { 0 < length text.now }
     ensures lines { lines_in text.now ≡ result.line.now ∷ lines_in result.behind.now }
