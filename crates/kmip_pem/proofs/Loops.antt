@@ -8,7 +8,11 @@ use Rattle.std.proofs.lemmas.Option.{cond_some, none-some}
 use Rattle.kmip_pem.proofs.Tests.{by_test}
 use Rattle.kmip_pem.specs.Lines.{is_line_end, cut, trimmed, lines_in, text_of}
 use Rattle.kmip_pem.specs.Pem.{before_digits}
-use Rattle.kmip_pem.specs.Written.{cut_at_64, lines_of_64}
+use Rattle.base64.specs.GeneralPurpose.{encode_of}
+use Rattle.base64.specs.Engines.{standard}
+use Rattle.kmip_pem.specs.declared.labels.Label.{Label}
+use Rattle.kmip_pem.specs.Labels.{label_text, begin_line, end_line}
+use Rattle.kmip_pem.specs.Written.{cut_at_64, lines_of_64, body_text, pem_text}
 
 -- ---- the first line
 
@@ -112,6 +116,10 @@ unfolding before_digits
 digits_more digits line None = refl
 digits_more digits line (Some more) = ap Some (append_assoc digits line more)
 
+pub digits_absent : (line : List ℕ) → before_digits line None ≡ None
+unfolding before_digits
+digits_absent line = refl
+
 pub digits_end : (digits : List ℕ) → before_digits digits (Some []) ≡ Some digits
 unfolding before_digits
 digits_end digits = ap Some (append-nil digits)
@@ -141,8 +149,9 @@ lines_more (a ∷ digits) h =
     ap (λ lines. take 64 (a ∷ digits) ∷ lines) (fuel_same (length digits) (length rest) rest short same)
 
 pub push_more : (out digits : List ℕ) → 0 < length digits
-    → ((out ++ take (min 64 (length digits)) digits) ++ (10 ∷ [])) ++ text_of (lines_of_64 (drop (min 64 (length digits)) digits))
-    ≡ out ++ text_of (lines_of_64 digits)
+    → ((out ++ take (min 64 (length digits)) digits) ++ (10 ∷ [])) ++ body_text (drop (min 64 (length digits)) digits)
+    ≡ out ++ body_text digits
+unfolding body_text
 push_more out digits h =
     let line : List ℕ = take 64 digits in
     let more : List ℕ = text_of (lines_of_64 (drop 64 digits)) in
@@ -151,3 +160,36 @@ push_more out digits h =
     ∙ (append_assoc (out ++ line) (10 ∷ []) more
     ∙ (append_assoc out line (10 ∷ more)
     ∙ ap (λ lines. out ++ text_of lines) (sym (lines_more digits h)))))
+
+pub body_end : (out digits : List ℕ) → length digits ≤ 0 → out ++ body_text digits ≡ out
+unfolding body_text
+body_end out [] h = append-nil out
+body_end out (a ∷ digits) h = absurd (omega arith)
+
+-- ---- the whole text
+
+text_append : (xs ys : List (List ℕ)) → text_of (xs ++ ys) ≡ text_of xs ++ text_of ys
+text_append [] ys = refl
+text_append (line ∷ xs) ys =
+    ap (λ t. line ++ (10 ∷ t)) (text_append xs ys) ∙ sym (append_assoc line (10 ∷ text_of xs) (text_of ys))
+
+around : (begin end : List ℕ) (lines : List (List ℕ))
+    → ((begin ++ (10 ∷ [])) ++ text_of lines) ++ (end ++ (10 ∷ [])) ≡ text_of (begin ∷ (lines ++ (end ∷ [])))
+around begin end lines =
+    let body : List ℕ = text_of lines in
+    let last : List ℕ = end ++ (10 ∷ []) in
+    append_assoc (begin ++ (10 ∷ [])) body last
+    ∙ (append_assoc begin (10 ∷ []) (body ++ last)
+    ∙ ap (λ t. begin ++ (10 ∷ t)) (sym (text_append lines (end ∷ []))))
+
+pub written_by : (label : Label) (bytes : List ℕ)
+    → ((begin_line (label_text label) ++ (10 ∷ [])) ++ body_text (encode_of standard bytes))
+    ++ (end_line (label_text label) ++ (10 ∷ [])) ≡ pem_text label bytes
+unfolding body_text
+written_by label bytes =
+    around (begin_line (label_text label)) (end_line (label_text label)) (lines_of_64 (encode_of standard bytes))
+
+pub joined_text : (begin body end a b c d : List ℕ) → a ≡ [] → b ≡ a ++ begin → c ≡ b ++ body → d ≡ c ++ end
+    → d ≡ (begin ++ body) ++ end
+joined_text begin body end a b c d e f g h =
+    h ∙ ap (λ x. x ++ end) (g ∙ ap (λ x. x ++ body) (f ∙ ap (λ x. x ++ begin) e))

@@ -16,6 +16,10 @@ cut_at_64 (suc n) (a ∷ digits) =
 abbrev pub lines_of_64 : List ℕ → List (List ℕ)
 lines_of_64 digits = cut_at_64 (length digits) digits
 
+-- the text of these
+unfoldable pub body_text : List ℕ → List ℕ
+body_text digits = text_of (lines_of_64 digits)
+
 abbrev pub pem_lines : Label → List ℕ → List (List ℕ)
 pem_lines label bytes =
     begin_line (label_text label)

@@ -25,7 +25,9 @@ fn decoded(alloc: Global, label: Label, digits: &[u8]) -> Result<Pem, ReadError>
     ensures read { IfOk result (λ pem. decoded label digits.now ≡ Ok (pem_view pem)) }
     ensures refused { IfErr result (λ error. IsFailure (decoded label digits.now) error) }
 {
-    let mut bytes = Secret::zeros(alloc, decoded_len_estimate(digits.len()))?;
+    let Ok(mut bytes) = Secret::zeros(alloc, decoded_len_estimate(digits.len())) else {
+        return Err(ReadError::OutOfMemory);
+    };
     match STANDARD.decode_slice_unchecked(digits, bytes.bytes.as_mut_slice()) {
         Ok(count) => {
             bytes.bytes.truncate(count);
@@ -46,7 +48,10 @@ fn read_block(alloc: Global, block: Begun) -> Result<Pem, ReadError>
     let Some(label) = Label::named(block.label) else {
         return Err(ReadError::NoPem(NoPem::OtherLabel));
     };
-    match digits_in(alloc, block.label, block.behind)? {
+    let Ok(found) = digits_in(alloc, block.label, block.behind) else {
+        return Err(ReadError::OutOfMemory);
+    };
+    match found {
         Some(digits) => decoded(alloc, label, digits.as_slice()),
         None => Err(ReadError::NoPem(NoPem::NoEnd)),
     }

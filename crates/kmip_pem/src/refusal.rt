@@ -1,5 +1,4 @@
 //! Why a text is not read. Nothing here shows a byte of it.
-use std::alloc::AllocError;
 
 /// Why a text has no block that is read. Each holds no part of the text, which may be a key.
 #[derive(Clone, Copy, Debug, PartialEq, Eq, Drop)]
@@ -25,10 +24,4 @@ pub enum ReadError {
     NoPem(NoPem),
     /// Memory ran out.
     OutOfMemory,
-}
-
-impl From<AllocError> for ReadError {
-    fn from(_error: AllocError) -> ReadError {
-        ReadError::OutOfMemory
-    }
 }

@@ -2,9 +2,8 @@
 ghost use Rattle.std.specs.Prelude.{◌≡◌, ◌++◌, ◌∷◌, [], codes, IfOk, OnOk};
 ghost use Rattle.base64.specs.GeneralPurpose.{encode_of};
 ghost use Rattle.base64.specs.Engines.{standard};
-ghost use Rattle.kmip_pem.specs.Lines.{text_of};
 ghost use Rattle.kmip_pem.specs.Labels.{label_text, begin_line, end_line};
-ghost use Rattle.kmip_pem.specs.Written.{lines_of_64, pem_text};
+ghost use Rattle.kmip_pem.specs.Written.{body_text, pem_text};
 
 use crate::labels::{BEGIN, DASHES, END, Label};
 use crate::secret::Secret;
@@ -30,16 +29,16 @@ fn encoded(alloc: Global, bytes: &[u8]) -> Result<Secret, AllocError>
 }
 
 /// Appends digits in lines.
-#[tactic(auto, using(crate::proofs::Loops::push_more))]
 fn push_lines(out: &mut Secret, digits: &[u8]) -> Result<(), AllocError>
-    ensures { OnOk result (out.new ≡ out.old ++ text_of (lines_of_64 digits.now)) }
+    ensures { OnOk result (out.new ≡ out.old ++ body_text digits.now) }
 {
     let mut rest = digits;
     while rest.len() > 0 {
         let len = LINE.min(rest.len());
-        out.push_all(&rest[..len])?;
+        let (line, behind) = rest.split_at(len);
+        out.push_all(line)?;
         out.push_all(b"\n")?;
-        rest = &rest[len..];
+        rest = behind;
     }
     Ok(())
 }
