@@ -1,9 +1,7 @@
 -- What is a PEM is read as one, and as no other.
-use Rattle.std.proofs.Common.{◌≡◌, ℕ, Bool, true, false, ◌||◌, List, [], ◌∷◌, ◌++◌, Option, Some, None, Result, Ok, Err, codes, refl, sym, ap, ◌∙◌, cond}
-use Rattle.std.specs.Prelude.{bytes_eq, if◌then◌else◌}
+use Rattle.std.proofs.Common.{◌≡◌, ℕ, true, false, List, ◌∷◌, ◌++◌, Some, None, Result, Ok, Err, refl, sym, ap, ◌∙◌, cond}
 use Rattle.std.specs.List.{list_all, concat}
-use Rattle.std.proofs.lemmas.Option.{same_Some}
-use Rattle.base64.specs.GeneralPurpose.{encode_of, decode_of}
+use Rattle.base64.specs.GeneralPurpose.{decode_of}
 use Rattle.base64.specs.Engines.{standard}
 use Rattle.base64.proofs.EngineFacts.{decode_of-encode_of}
 use Rattle.kmip_pem.specs.declared.labels.Label.{Label}
@@ -11,8 +9,8 @@ use Rattle.kmip_pem.specs.declared.labels.Label.TheVariants.{RsaPublicKey, Publi
 use Rattle.kmip_pem.specs.declared.refusal.NoPem.{NoPem}
 use Rattle.kmip_pem.specs.declared.refusal.NoPem.TheVariants.{Encrypted}
 use Rattle.kmip_pem.specs.Lines.{lines_in}
-use Rattle.kmip_pem.specs.Labels.{label_text, label_named, begin_line, end_line, is_of_parameters}
-use Rattle.kmip_pem.specs.Pem.{Begun, Pem, IsPem, first_begun, digits_in, has_header, is_encrypted, decoded_by, read_digits, read_labelled, read_block, read_alone, read_first, pem_in}
+use Rattle.kmip_pem.specs.Labels.{label_text, label_named, end_line, is_of_parameters}
+use Rattle.kmip_pem.specs.Pem.{Begun, Pem, IsPem, first_begun, has_header, is_encrypted, decoded_by, read_digits, read_labelled, read_block, read_alone, read_first, pem_in}
 use Rattle.kmip_pem.proofs.Tests.{all_parts}
 use Rattle.kmip_pem.proofs.Plain.{is_plain, encoded_plain}
 use Rattle.kmip_pem.proofs.First.{first_found, plain_passed}

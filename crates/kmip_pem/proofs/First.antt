@@ -1,10 +1,10 @@
 -- The first block that begins in lines.
-use Rattle.std.proofs.Common.{◌≡◌, ℕ, Bool, true, false, ◌&&◌, List, [], ◌∷◌, ◌++◌, Option, Some, None, refl, sym, ap, ◌∙◌}
+use Rattle.std.proofs.Common.{◌≡◌, ℕ, true, false, ◌&&◌, List, [], ◌∷◌, ◌++◌, Option, Some, None, refl, sym, ap, ◌∙◌}
 use Rattle.std.specs.Option.{option_or}
 use Rattle.std.specs.List.{list_all}
 use Rattle.std.proofs.lemmas.Bool.{and_parts}
 use Rattle.std.proofs.lemmas.Option.{none-some, same_Some}
-use Rattle.kmip_pem.specs.Labels.{begin_line, end_line, begun_by, is_of_parameters}
+use Rattle.kmip_pem.specs.Labels.{begin_line, begun_by, is_of_parameters}
 use Rattle.kmip_pem.specs.Pem.{Begun, is_closed, is_aside, begun_unless_aside, first_begun}
 use Rattle.kmip_pem.proofs.Tests.{by_test}
 use Rattle.kmip_pem.proofs.Marks.{begin_begins, begun_is}

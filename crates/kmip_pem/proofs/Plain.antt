@@ -1,7 +1,7 @@
 -- Bytes that are no dash and no white space, as digits are: a line of them neither begins nor ends a block,
 -- and is no header.
-use Rattle.std.proofs.Common.{◌≡◌, ℕ, zero, suc, ◌+◌, ◌*◌, ◌/◌, ◌%◌, ◌==◌, Bool, true, false, not, ◌&&◌, ◌||◌, List, [], ◌∷◌, ◌++◌, length, replicate, slice_index, None, codes, refl, sym, ap, subst, ◌∙◌}
-use Rattle.std.specs.Prelude.{bytes_eq, if◌then◌else◌}
+use Rattle.std.proofs.Common.{◌≡◌, ℕ, zero, suc, ◌+◌, ◌*◌, ◌/◌, ◌%◌, ◌==◌, Bool, true, false, not, ◌&&◌, List, [], ◌∷◌, length, replicate, slice_index, None, codes, refl, sym, ap, ◌∙◌}
+use Rattle.std.specs.Prelude.{bytes_eq}
 use Rattle.std.specs.List.{list_all}
 use Rattle.std.proofs.lemmas.Bool.{and_parts, and_from, eqb-true}
 use Rattle.base64.specs.Rfc4648.{encode_symbols, padding_len}
@@ -9,7 +9,7 @@ use Rattle.base64.specs.GeneralPurpose.{encode_of}
 use Rattle.base64.specs.Engines.{standard}
 use Rattle.kmip_pem.specs.Lines.{is_white, is_line_end}
 use Rattle.kmip_pem.specs.Labels.{begun_by, ended_by, ends}
-use Rattle.kmip_pem.proofs.Tests.{by_test, false_by, not_so, all_append}
+use Rattle.kmip_pem.proofs.Tests.{false_by, not_so, all_append}
 use Rattle.kmip_pem.proofs.Marks.{same_bytes, same_label}
 
 abbrev pub is_plain : ℕ → Bool

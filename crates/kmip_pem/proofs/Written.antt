@@ -1,6 +1,5 @@
 -- What is written has the lines that it was written in, and is read.
-use Rattle.std.proofs.Common.{◌≡◌, ℕ, zero, suc, ◌+◌, ◌-◌, ◌≤◌, ◌==◌, Bool, true, false, not, ◌&&◌, List, [], ◌∷◌, ◌++◌, length, take, drop, reverse, map, Option, Some, None, refl, sym, ap, ◌∙◌, arith, length-drop}
-use Rattle.std.specs.Prelude.{if◌then◌else◌}
+use Rattle.std.proofs.Common.{◌≡◌, ℕ, zero, suc, ◌≤◌, Bool, true, false, not, List, [], ◌∷◌, ◌++◌, length, take, drop, reverse, map, refl, sym, ap, ◌∙◌, arith, length-drop}
 use Rattle.std.specs.List.{list_all, concat, onto_first}
 use Rattle.std.proofs.lemmas.Bool.{and_parts, and_from}
 use Rattle.std.proofs.lemmas.List.{take-append-drop, reverse-reverse}
@@ -9,7 +8,7 @@ use Rattle.base64.specs.GeneralPurpose.{encode_of, IsBytes}
 use Rattle.base64.specs.Engines.{standard}
 use Rattle.kmip_pem.specs.declared.labels.Label.{Label}
 use Rattle.kmip_pem.specs.declared.labels.Label.TheVariants.{RsaPublicKey, PublicKey, RsaPrivateKey, PrivateKey, EcPrivateKey, Certificate}
-use Rattle.kmip_pem.specs.Lines.{is_line_end, cut, is_white, without_white, trimmed, lines_in, text_of}
+use Rattle.kmip_pem.specs.Lines.{is_line_end, cut, without_white, trimmed, lines_in, text_of}
 use Rattle.kmip_pem.specs.Labels.{label_text, label_named, begin_line, end_line, is_private, is_public}
 use Rattle.kmip_pem.specs.Pem.{Begun, IsPem, first_begun}
 use Rattle.kmip_pem.specs.Written.{cut_at_64, lines_of_64, pem_lines, pem_text}
