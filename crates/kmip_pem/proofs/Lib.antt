@@ -1,0 +1,9 @@
+pub mod Tests
+pub mod Loops
+pub mod Marks
+pub mod Plain
+pub mod First
+pub mod Digits
+pub mod Exact
+pub mod Written
+pub mod Real
