@@ -1,5 +1,5 @@
 -- The typed tables of kmip_request and kmip_response beside the rows of their operations.
-use Rattle.std.specs.Prelude.{ℕ, ◌==◌, Bool, true, false, ◌&&◌, not, List, [], ◌∷◌, Option, Some, None, find, codes, bytes_eq}
+use Rattle.std.specs.Prelude.{ℕ, ◌==◌, Bool, true, false, ◌&&◌, List, [], ◌∷◌, Option, Some, None, find, codes, bytes_eq}
 use Rattle.kmip_wire.specs.declared.kind.Kind.TheVariants as types
 use Rattle.kmip_shape.specs.Shape as shapes
 use Rattle.kmip_shape.specs.Enumerations.{variant_at}
