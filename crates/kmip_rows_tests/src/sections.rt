@@ -80,7 +80,7 @@ fn listed(rt: &impl Abort, alloc: Global, fields: &[FieldRow]) -> String {
             out.push_str("=").expect(rt, "memory");
         }
         let name = match field.place {
-            Place::Tag(tag) => name_of(Tag::of(tag)).expect(rt, "a tag"),
+            Place::Tag(tag) => name_of(Tag::new(tag).expect(rt, "a tag")).expect(rt, "a name"),
             Place::Object => "Object",
         };
         out.push_str(name).expect(rt, "memory");
