@@ -72,7 +72,11 @@ static void begin(void) {
     handles_forks = pthread_atfork(before_fork, after_fork, in_child) == 0;
 }
 
+/* Ends a pool of which no place is taken. (A connection that was given back while it was being freed
+   may be free in it.) */
 static void destroy(kmip_pool *pool) {
+    while (pool->idle_count > 0)
+        kmip_close(pool->idle[--pool->idle_count]);
     kmip_close(pool->like);
     (void)pthread_cond_destroy(&pool->freed);
     (void)pthread_mutex_destroy(&pool->lock);
