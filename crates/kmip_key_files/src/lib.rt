@@ -1,0 +1,19 @@
+//! Keys and certificates of files for KMIP, and files of what KMIP keeps: PEM and DER.
+#![tactic(auto)]
+
+mod block;
+mod der;
+mod forms;
+mod formats;
+mod refusal;
+mod told;
+mod writing;
+
+pub use block::{Block, Material, RsaNumbers};
+pub use der::Der;
+pub use formats::{File, in_format};
+pub use forms::{key_format, label_of, object_type};
+pub use kmip_pem::{Label, NoPem, Secret};
+pub use refusal::{NoFile, NoObject, ReadError, WriteError};
+pub use told::{KeyFacts, Object, Told, read_der, read_pem, told_of};
+pub use writing::{write_der, write_pem};
