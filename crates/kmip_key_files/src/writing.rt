@@ -63,7 +63,7 @@ fn number_fault(number: &[u8]) -> Option<NoFile>
 {
     match number {
         [] => Some(NoFile::NoBytes),
-        [128.., ..] => Some(NoFile::Negative),
+        [first, ..] if *first >= 128 => Some(NoFile::Negative),
         _ => {
             if number.len() < 16777216 {
                 None
