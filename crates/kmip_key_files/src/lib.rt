@@ -3,8 +3,9 @@
 
 mod block;
 mod der;
-mod forms;
 mod formats;
+mod forms;
+mod laws;
 mod refusal;
 mod told;
 mod writing;
@@ -14,6 +15,7 @@ pub use der::Der;
 pub use formats::{File, in_format};
 pub use forms::{key_format, label_of, object_type};
 pub use kmip_pem::{Label, NoPem, Secret};
+pub use laws::{format_keeps_the_key, private_is_apart, written_is_read};
 pub use refusal::{NoFile, NoObject, ReadError, WriteError};
 pub use told::{KeyFacts, Object, Told, read_der, read_pem, told_of};
 pub use writing::{write_der, write_pem};

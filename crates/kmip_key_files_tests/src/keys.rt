@@ -11,7 +11,11 @@ use std::process::Abort;
 fn is_told(rt: &impl Abort, told: &Told, row: &Row) {
     assert!(rt; object_type(told.label) == row.object_type, "{}", row.name);
     assert!(rt; key_format(told.label) == row.format, "{}", row.name);
-    assert!(rt; label_of(row.object_type, row.format) == Some(told.label), "{}", row.name);
+    assert!(rt;
+        label_of(row.object_type, row.format) == Some(told.label),
+        "{}",
+        row.name
+    );
     let key = told.key.map(|key| (key.algorithm, key.len, key.curve));
     assert!(rt; key == row.key, "{}", row.name);
 }
@@ -20,7 +24,11 @@ fn is_read(rt: &impl Abort, alloc: Global, row: &Row) {
     let wanted = hex::decode(alloc, row.hex).expect(rt, "hex");
     let object = read_pem(alloc, row.text).expect(rt, row.name);
     is_told(rt, &object.told, row);
-    assert!(rt; object.bytes.as_slice() == wanted.as_slice(), "{}", row.name);
+    assert!(rt;
+        object.bytes.as_slice() == wanted.as_slice(),
+        "{}",
+        row.name
+    );
     let told = read_der(&wanted).expect(rt, row.name);
     is_told(rt, &told, row);
 }
