@@ -36,7 +36,7 @@ bytes_file None bytes = Err OtherFormat
 bytes_file (Some label) [] = Err NoBytes
 bytes_file (Some label) (a ∷ rest) = checked_file label (a ∷ rest)
 
--- ---- parts (KMIP 1.2, 2.1.7): each number a Big Integer, the highest byte first, in two's complement
+-- ---- parts (KMIP 1.2, 2.1.7): each number a Big Integer, the highest byte first
 
 abbrev pub number_fault : List ℕ → Option NoFile
 number_fault [] = Some NoBytes

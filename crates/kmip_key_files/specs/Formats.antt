@@ -1,5 +1,5 @@
--- A key in another format: PKCS#8 (RFC 5958, 2) and X.509 (RFC 5280, 4.1.2.7) hold PKCS#1 (RFC 8017, A.1)
--- or ECPrivateKey (RFC 5915, 3).
+-- A key in another format: PKCS#8 (RFC 5958, 2) and X.509 (RFC 5280, 4.1.2.7) hold PKCS#1
+-- (RFC 8017, A.1) or ECPrivateKey (RFC 5915, 3).
 use Rattle.std.specs.Prelude.{ℕ, ◌==◌, Bool, true, false, ◌&&◌, List, [], ◌∷◌, ◌++◌, Option, Some, None, Result, Ok, Err, bytes_eq, if◌then◌else◌}
 use Rattle.std.specs.Option.{option_and_then, option_map}
 use Rattle.kmip_der.specs.Der.{Element, element, tagged, only, past}
@@ -27,7 +27,7 @@ key_in_pkcs8 der =
 abbrev pub key_in_spki : List ℕ → Option (List ℕ)
 key_in_spki der = option_and_then bits_behind (option_and_then (tagged 48) (only 48 der))
 
--- ---- ECPrivateKey with its curve in [0], as it stands by itself, and without, as it stands in PKCS#8
+-- ---- ECPrivateKey, with its curve in [0] where it stands by itself, and without in PKCS#8
 
 abbrev pub ec_key : List ℕ → Element → List ℕ
 ec_key curve number =
@@ -110,7 +110,8 @@ pub record File : Type 0 where
 abbrev pub file : Label → List ℕ → File
 file label der = record { label = label; der = der }
 
-abbrev pub file_told_by : Option KeyFacts → Label → List ℕ → Result Told NoObject → Result File NoFile
+abbrev pub file_told_by : Option KeyFacts → Label → List ℕ → Result Told NoObject
+    → Result File NoFile
 file_told_by key label der (Err why) = Err OtherFormat
 file_told_by key label der (Ok now) =
     if is_same_key key now.key then Ok (file label der) else Err OtherFormat

@@ -12,7 +12,7 @@ object_type PrivateKey = 4
 object_type EcPrivateKey = 4
 object_type Certificate = 1
 
--- the Key Format Type (KMIP 1.2, 9.1.3.2.3): PKCS#1 is 3, PKCS#8 4, X.509 5, and ECPrivateKey 6; of a
+-- the Key Format Type (KMIP 1.2, 9.1.3.2.3): PKCS#1 is 3, PKCS#8 4, X.509 5, ECPrivateKey 6; of a
 -- certificate the Certificate Type (KMIP 1.0, 9.1.3.2.6), of which X.509 is 1
 abbrev pub format : Label → ℕ
 format RsaPublicKey = 3

@@ -23,6 +23,9 @@ element_view e = record { tag = e.tag; contents = e.contents.now; behind = e.beh
 abbrev pub file_view : TheFile → File
 file_view x = file x.label x.der
 
+abbrev pub IsFile : Result File NoFile → TheFile → Type 0
+IsFile wanted x = wanted ≡ Ok (file_view x)
+
 -- an error has the reason that the definitions have; memory may run out at any time
 abbrev pub IsUnread : Result Told NoObject → ReadError → Type 0
 IsUnread wanted (Unread why) = wanted ≡ Err why

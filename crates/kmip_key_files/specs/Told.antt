@@ -1,5 +1,5 @@
--- What KMIP is told of a file: of a key its Cryptographic Algorithm and Length (KMIP 1.0, 3.4 and 3.5) and
--- its curve. The DER has to be what the label says, to its end.
+-- What KMIP is told of a file: of a key its Cryptographic Algorithm and Length (KMIP 1.0, 3.4, 3.5)
+-- and its curve. The DER has to be what the label says, to its end.
 use Rattle.std.specs.Prelude.{ℕ, ◌==◌, nat_lt, Bool, true, false, ◌&&◌, ◌||◌, not, List, [], ◌∷◌, find, Option, Some, None, Result, Ok, Err, bytes_eq, if◌then◌else◌, is_some}
 use Rattle.std.specs.Option.{option_and_then, option_map}
 use Rattle.kmip_der.specs.Der.{Element, tagged, only}
@@ -24,8 +24,8 @@ known_in PrivateKey der = pkcs8 der
 known_in EcPrivateKey der = sec1 der
 known_in Certificate der = None
 
--- ---- the algorithm of PKCS#8 (RFC 5958, 2) and of X.509 (RFC 5280, 4.1.2.7): its name, and behind it its
--- parameters
+-- ---- the algorithm of PKCS#8 (RFC 5958, 2) and of X.509 (RFC 5280, 4.1.2.7): its name, and behind
+-- it its parameters
 
 abbrev pub algorithm_behind : Option (List ℕ) → Option Element
 algorithm_behind parts =

@@ -11,7 +11,7 @@ pub struct Block<'a> {
     pub material: Material<'a>,
 }
 
-/// Key Material (KMIP 1.2, 2.1.4 and 2.1.7), or the value of a certificate. Each number is a Big Integer.
+/// Key Material (KMIP 1.2, 2.1.4 and 2.1.7), or a certificate. Numbers are Big Integers.
 #[derive(Clone, Copy, Drop)]
 pub enum Material<'a> {
     /// Bytes.

@@ -43,7 +43,7 @@ impl Der {
     }
 }
 
-/// Bytes, and others behind them. The room for all is there from the start, so no copy stays behind.
+/// Bytes, and others behind them. There is room for all from the start, so no copy stays behind.
 pub(crate) fn joined(alloc: Global, first: &[u8], second: &[u8]) -> Result<Der, AllocError>
     ensures { IfOk result (λ der. der ≡ first.now ++ second.now) }
 {

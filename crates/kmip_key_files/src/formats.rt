@@ -3,7 +3,7 @@ ghost use Rattle.std.specs.Prelude.{◌≡◌, ◌++◌, option_map, IfOk, IfErr
 ghost use Rattle.kmip_der.specs.Curve.{curve_view};
 ghost use Rattle.kmip_der.specs.Der.{element, past};
 ghost use Rattle.kmip_der.specs.Write.{ec_algorithm, spki_der};
-ghost use Rattle.kmip_key_files.specs.Found.{element_view, file_view, IsUnwritten};
+ghost use Rattle.kmip_key_files.specs.Found.{element_view, IsFile, IsUnwritten};
 ghost use Rattle.kmip_key_files.specs.Formats.{key_in_pkcs8, key_in_spki, ec_key, ec_key_of};
 ghost use Rattle.kmip_key_files.specs.Formats.{rsa_algorithm, pkcs8_der, to_pkcs8, to_rsa_private};
 ghost use Rattle.kmip_key_files.specs.Formats.{to_sec1, to_spki, to_rsa_public, der_of};
@@ -70,7 +70,8 @@ fn ec_key(alloc: Global, curve: &[u8], number: Element<'_>) -> Result<Der, Alloc
 
 /// ECPrivateKey with its curve.
 fn ec_key_of(alloc: Global, curve: &Curve, number: Element<'_>) -> Result<Der, AllocError>
-    ensures { IfOk result (λ der. der ≡ ec_key_of (curve_view curve.now) (element_view number.entry)) }
+    ensures { IfOk result (λ der. der ≡
+        ec_key_of (curve_view curve.now) (element_view number.entry)) }
 {
     let name = element(alloc, 6, curve.name)?;
     let told = element(alloc, 160, name.as_slice())?;
@@ -239,11 +240,11 @@ fn is_same_key(a: Option<KeyFacts>, b: Option<KeyFacts>) -> bool
     }
 }
 
-/// A key that is told so in the format with this number, of its Object Type; and that tells the same.
-/// What is told has to be what `told_of`, `read_der` or `read_pem` told of these bytes.
+/// A key of which this is told, in the format with this number: of the same Object Type, and the same
+/// is told of it.
 pub fn in_format(alloc: Global, told: &Told, der: &[u8], format: u32) -> Result<File, WriteError>
-    ensures written { IfOk result (λ file. file_in_format told.now der.now format ≡ Ok (file_view file)) }
-    ensures refused { IfErr result (λ error. IsUnwritten (file_in_format told.now der.now format) error) }
+    ensures written { IfOk result (IsFile (file_in_format told.now der.now format)) }
+    ensures refused { IfErr result (IsUnwritten (file_in_format told.now der.now format)) }
 {
     let Some(label) = label_of(object_type(told.label), format) else {
         return Err(WriteError::NoFile(NoFile::OtherFormat));

@@ -12,8 +12,8 @@ ghost use Rattle.kmip_key_files.specs.Told.{told_of, told_in_der, told_in_pem};
 ghost use Rattle.kmip_key_files.specs.Formats.{File, is_same_key, file_in_format};
 ghost use Rattle.kmip_key_files.specs.Files.{file_of};
 
-/// What is a private key is told and written as a private key, whose Object Type is 4, and never as a public
-/// key or a certificate: in DER, in PEM, as what its label says, and of what a server told.
+/// What is a private key is told and written as a private key, whose Object Type is 4, and never as
+/// a public key or a certificate: in DER, in PEM, as what its label says, and from a server.
 pub fn private_is_apart()
     ensures label { (label : Label) (der : List ℕ) (told : Told) → is_private der ≡ true →
         told_of label der ≡ Ok told → object_type told.label ≡ 4 }
@@ -27,8 +27,8 @@ pub fn private_is_apart()
     kmip_der::private_is_apart();
 }
 
-/// What is written is of its Object Type, so no private key is one with the label of another, and it is
-/// read: it is what its label says, and its text is told.
+/// What is written is of its Object Type, so no private key has the label of another object. It is
+/// what its label says, and its text is told.
 pub fn written_is_read()
     ensures object_type { (block : Block) (file : File) → file_of block ≡ Ok file →
         object_type file.label ≡ block.object_type }
@@ -47,5 +47,6 @@ pub fn format_keeps_the_key()
         file_in_format told der format ≡ Ok file → object_type file.label ≡ object_type told.label }
     ensures same { (told : Told) (der : List ℕ) (format : ℕ) (file : File) →
         file_in_format told der format ≡ Ok file →
-        (now : Told) × (told_of file.label file.der ≡ Ok now) × (is_same_key told.key now.key ≡ true) }
+        (now : Told) × (told_of file.label file.der ≡ Ok now) ×
+        (is_same_key told.key now.key ≡ true) }
 {}

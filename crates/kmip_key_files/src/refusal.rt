@@ -1,4 +1,4 @@
-//! Why a file is no object of KMIP, and why an object has no file. Nothing here shows a byte of a key.
+//! Why a file is no object of KMIP, and why an object has no file. Nothing here shows a key.
 use kmip_pem::NoPem;
 
 /// Why a file is not told to KMIP.
@@ -34,7 +34,7 @@ pub enum NoFile {
     Wrapped,
     /// Files have no such format for its Object Type.
     OtherFormat,
-    /// The bytes are not what their format says, or KMIP 1.2 has no name for the algorithm or the curve.
+    /// The bytes are not what their format says, or KMIP has no name for what they are.
     OtherBytes,
     /// There are no bytes.
     NoBytes,

@@ -6,7 +6,8 @@ ghost use Rattle.kmip_pem.specs.Pem.{pem_in};
 ghost use Rattle.kmip_key_files.specs.Told.{known_in, algorithm_behind, algorithm_in};
 ghost use Rattle.kmip_key_files.specs.Told.{curve_with_name, curve_number, curve_in_key};
 ghost use Rattle.kmip_key_files.specs.Told.{is_other_algorithm, has_parameters, has_no_name};
-ghost use Rattle.kmip_key_files.specs.Told.{key_told, told_of, label_in, is_nameless, told_in_der, told_in_pem};
+ghost use Rattle.kmip_key_files.specs.Told.{key_told, told_of, label_in, is_nameless};
+ghost use Rattle.kmip_key_files.specs.Told.{told_in_der, told_in_pem};
 ghost use Rattle.kmip_key_files.specs.Found.{known_view, element_view, IsUnread};
 
 use crate::forms::{key_format, object_type};
@@ -27,9 +28,9 @@ pub(crate) const EC: &[u8] = &[42, 134, 72, 206, 61, 2, 1];
 /// What KMIP is told of a key.
 #[derive(Clone, Copy, Debug, PartialEq, Eq, Drop)]
 pub struct KeyFacts {
-    /// The number of its Cryptographic Algorithm: KMIP 1.0, 9.1.3.2.12. RSA is 4, DSA 5, and ECDSA 6.
+    /// The number of its Cryptographic Algorithm: RSA is 4, DSA 5, ECDSA 6 (KMIP 1.0, 9.1.3.2.12).
     pub algorithm: u32,
-    /// Its Cryptographic Length, below 2^31: the bits of the modulus, of p, or of the curve's field.
+    /// Its Cryptographic Length, below 2^31: the bits of the modulus, of p, or of the field.
     pub len: u32,
     /// The number of its Recommended Curve: KMIP 1.2, 9.1.3.2.5.
     pub curve: Option<u32>,
@@ -250,7 +251,7 @@ pub fn read_pem(alloc: Global, text: &[u8]) -> Result<Object, ReadError>
     ensures told { IfOk result (λ object. told_in_pem text.now ≡ Ok object.told) }
     ensures bytes { IfOk result (λ object. pem_in text.now ≡
         Ok (record { label = object.told.label; bytes = object.bytes })) }
-    ensures refused { IfErr result (λ error. IsUnread (told_in_pem text.now) error) }
+    ensures refused { IfErr result (IsUnread (told_in_pem text.now)) }
 {
     let pem = match read(alloc, text) {
         Ok(pem) => pem,

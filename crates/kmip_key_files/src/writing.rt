@@ -1,9 +1,9 @@
 //! The file of a key block or of a certificate.
-ghost use Rattle.std.specs.Prelude.{◌≡◌, ◌<◌, ◌≤◌, ◌^◌, ℕ, None, Some, Ok, All, IsNone, length, map, option_map, IfOk, IfErr};
+ghost use Rattle.std.specs.Prelude.{◌≡◌, ◌<◌, ◌≤◌, ◌^◌, All, length, map, IfOk, IfErr};
 ghost use Rattle.kmip_der.specs.Curve.{curve_view, curve_with};
 ghost use Rattle.kmip_der.specs.CurveTable.{curves};
 ghost use Rattle.kmip_pem.specs.Written.{pem_text};
-ghost use Rattle.kmip_key_files.specs.Found.{file_view, IsUnwritten};
+ghost use Rattle.kmip_key_files.specs.Found.{IsFile, IsUnwritten};
 ghost use Rattle.kmip_key_files.specs.Files.{checked_file, bytes_file, number_fault, numbers_fault};
 ghost use Rattle.kmip_key_files.specs.Files.{rsa_public_file, rsa_private_file, numbers_in};
 ghost use Rattle.kmip_key_files.specs.Files.{ec_public_file, ec_private_file, material_file};
@@ -30,8 +30,8 @@ fn refused(why: NoFile) -> Result<File, WriteError>
 
 /// DER with its label, which it has to be.
 fn checked_file(label: Label, der: Der) -> Result<File, WriteError>
-    ensures written { IfOk result (λ file. checked_file label der ≡ Ok (file_view file)) }
-    ensures refused { IfErr result (λ error. IsUnwritten (checked_file label der) error) }
+    ensures written { IfOk result (IsFile (checked_file label der)) }
+    ensures refused { IfErr result (IsUnwritten (checked_file label der)) }
 {
     match told_of(label, der.as_slice()) {
         Ok(_) => Ok(File { label, der }),
@@ -41,8 +41,8 @@ fn checked_file(label: Label, der: Der) -> Result<File, WriteError>
 
 /// Bytes, in a format that has a label.
 fn bytes_file(alloc: Global, label: Option<Label>, bytes: &[u8]) -> Result<File, WriteError>
-    ensures written { IfOk result (λ file. bytes_file label bytes.now ≡ Ok (file_view file)) }
-    ensures refused { IfErr result (λ error. IsUnwritten (bytes_file label bytes.now) error) }
+    ensures written { IfOk result (IsFile (bytes_file label bytes.now)) }
+    ensures refused { IfErr result (IsUnwritten (bytes_file label bytes.now)) }
 {
     let Some(label) = label else {
         return refused(NoFile::OtherFormat);
@@ -90,8 +90,8 @@ fn numbers_fault(numbers: &[&[u8]]) -> Option<NoFile>
 
 /// PKCS#1 of the two numbers of a public key.
 fn rsa_public_file(alloc: Global, modulus: &[u8], exponent: &[u8]) -> Result<File, WriteError>
-    ensures written { IfOk result (λ file. rsa_public_file modulus.now exponent.now ≡ Ok (file_view file)) }
-    ensures refused { IfErr result (λ error. IsUnwritten (rsa_public_file modulus.now exponent.now) error) }
+    ensures written { IfOk result (IsFile (rsa_public_file modulus.now exponent.now)) }
+    ensures refused { IfErr result (IsUnwritten (rsa_public_file modulus.now exponent.now)) }
 {
     if let Some(why) = number_fault(modulus) {
         return refused(why);
@@ -107,8 +107,8 @@ fn rsa_public_file(alloc: Global, modulus: &[u8], exponent: &[u8]) -> Result<Fil
 
 /// PKCS#1 of the eight numbers of a private key.
 fn rsa_private_file(alloc: Global, rsa: &RsaNumbers<'_>) -> Result<File, WriteError>
-    ensures written { IfOk result (λ file. rsa_private_file (numbers_in rsa.now) ≡ Ok (file_view file)) }
-    ensures refused { IfErr result (λ error. IsUnwritten (rsa_private_file (numbers_in rsa.now)) error) }
+    ensures written { IfOk result (IsFile (rsa_private_file (numbers_in rsa.now))) }
+    ensures refused { IfErr result (IsUnwritten (rsa_private_file (numbers_in rsa.now))) }
 {
     let (Some(e), Some(d)) = (rsa.public_exponent, rsa.private_exponent) else {
         return refused(NoFile::NoNumber);
@@ -128,10 +128,10 @@ fn rsa_private_file(alloc: Global, rsa: &RsaNumbers<'_>) -> Result<File, WriteEr
 /// PKCS#1 of these numbers.
 fn numbers_file(alloc: Global, numbers: &[&[u8]]) -> Result<File, WriteError>
     requires { length numbers.now ≤ 8 }
-    ensures written { IfOk result (λ file.
-        rsa_private_file (Some (map (λ number. number.now) numbers.now)) ≡ Ok (file_view file)) }
-    ensures refused { IfErr result (λ error.
-        IsUnwritten (rsa_private_file (Some (map (λ number. number.now) numbers.now))) error) }
+    ensures written { IfOk result
+        (IsFile (rsa_private_file (Some (map (λ number. number.now) numbers.now)))) }
+    ensures refused { IfErr result
+        (IsUnwritten (rsa_private_file (Some (map (λ number. number.now) numbers.now)))) }
 {
     if let Some(why) = numbers_fault(numbers) {
         return refused(why);
@@ -144,10 +144,9 @@ fn numbers_file(alloc: Global, numbers: &[&[u8]]) -> Result<File, WriteError>
 
 /// ECPrivateKey of the number of a private key.
 fn ec_private_file(alloc: Global, curve: u32, number: &[u8]) -> Result<File, WriteError>
-    ensures written { IfOk result (λ file.
-        ec_private_file number.now (curve_with curves curve) ≡ Ok (file_view file)) }
-    ensures refused { IfErr result (λ error.
-        IsUnwritten (ec_private_file number.now (curve_with curves curve)) error) }
+    ensures written { IfOk result (IsFile (ec_private_file number.now (curve_with curves curve))) }
+    ensures refused { IfErr result
+        (IsUnwritten (ec_private_file number.now (curve_with curves curve))) }
 {
     let Some(curve) = curve_numbered(curve) else {
         return refused(NoFile::NoCurve);
@@ -166,10 +165,9 @@ fn ec_private_file(alloc: Global, curve: u32, number: &[u8]) -> Result<File, Wri
 
 /// X.509 of the point of a public key.
 fn ec_public_file(alloc: Global, curve: u32, point: &[u8]) -> Result<File, WriteError>
-    ensures written { IfOk result (λ file.
-        ec_public_file point.now (curve_with curves curve) ≡ Ok (file_view file)) }
-    ensures refused { IfErr result (λ error.
-        IsUnwritten (ec_public_file point.now (curve_with curves curve)) error) }
+    ensures written { IfOk result (IsFile (ec_public_file point.now (curve_with curves curve))) }
+    ensures refused { IfErr result
+        (IsUnwritten (ec_public_file point.now (curve_with curves curve))) }
 {
     let Some(curve) = curve_numbered(curve) else {
         return refused(NoFile::NoCurve);
@@ -185,8 +183,8 @@ fn ec_public_file(alloc: Global, curve: u32, point: &[u8]) -> Result<File, Write
 
 /// The file of Key Material, of an object of this type.
 fn material_file(alloc: Global, kind: u32, material: &Material<'_>) -> Result<File, WriteError>
-    ensures written { IfOk result (λ file. material_file kind material.now ≡ Ok (file_view file)) }
-    ensures refused { IfErr result (λ error. IsUnwritten (material_file kind material.now) error) }
+    ensures written { IfOk result (IsFile (material_file kind material.now)) }
+    ensures refused { IfErr result (IsUnwritten (material_file kind material.now)) }
 {
     match material {
         Material::Bytes { format, bytes } => bytes_file(alloc, label_of(kind, *format), *bytes),
@@ -204,8 +202,8 @@ fn material_file(alloc: Global, kind: u32, material: &Material<'_>) -> Result<Fi
 
 /// The DER of an object, with the label that it has in PEM: what that label says, or a refusal.
 pub fn write_der(alloc: Global, block: &Block<'_>) -> Result<File, WriteError>
-    ensures written { IfOk result (λ file. file_of block.now ≡ Ok (file_view file)) }
-    ensures refused { IfErr result (λ error. IsUnwritten (file_of block.now) error) }
+    ensures written { IfOk result (IsFile (file_of block.now)) }
+    ensures refused { IfErr result (IsUnwritten (file_of block.now)) }
 {
     let kind = block.object_type;
     if !(kind == 1 || kind == 3 || kind == 4) {
@@ -220,7 +218,7 @@ pub fn write_der(alloc: Global, block: &Block<'_>) -> Result<File, WriteError>
 /// The PEM of an object.
 pub fn write_pem(alloc: Global, block: &Block<'_>) -> Result<Secret, WriteError>
     ensures written { IfOk result (λ text. pem_of block.now ≡ Ok text) }
-    ensures refused { IfErr result (λ error. IsUnwritten (file_of block.now) error) }
+    ensures refused { IfErr result (IsUnwritten (file_of block.now)) }
 {
     let file = write_der(alloc, block)?;
     match write(alloc, file.label, file.der.as_slice()) {
