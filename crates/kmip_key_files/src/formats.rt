@@ -192,6 +192,7 @@ fn to_spki(alloc: Global, label: Label, der: &[u8]) -> Result<Option<Der>, Alloc
 }
 
 /// In the format of another label.
+#[tactic(auto, unfolding(crate::specs::Formats::der_of))]
 fn der_of(alloc: Global, label: Label, to: Label, der: &[u8]) -> Result<Option<Der>, AllocError>
     ensures { IfOk result (λ found. found ≡ der_of label to der.now) }
 {

@@ -55,6 +55,7 @@ pub struct Object {
 }
 
 /// A key in the format of its label.
+#[tactic(auto, unfolding(crate::specs::Told::known_in))]
 fn known_in(label: Label, der: &[u8]) -> Option<Known>
     ensures { option_map known_view result ≡ known_in label der.now }
 {
@@ -89,6 +90,7 @@ fn algorithm_behind<'a>(parts: &'a [u8]) -> Option<Element<'a>>
 }
 
 /// The algorithm of PKCS#8 or of X.509.
+#[tactic(auto, unfolding(crate::specs::Told::algorithm_in))]
 fn algorithm_in<'a>(label: Label, der: &'a [u8]) -> Option<Element<'a>>
     ensures { option_map element_view result ≡ algorithm_in label der.now }
 {
@@ -112,6 +114,7 @@ fn curve_with_name(name: Element<'_>) -> Option<&'static Curve>
 }
 
 /// The curve of a key.
+#[tactic(auto, unfolding(crate::specs::Told::curve_in_key))]
 pub(crate) fn curve_in_key(label: Label, der: &[u8]) -> Option<&'static Curve>
     ensures { option_map (λ curve. curve_view curve.now) result ≡ curve_in_key label der.now }
 {
@@ -150,6 +153,7 @@ fn has_parameters(der: &[u8]) -> bool
 }
 
 /// Whether DER has an algorithm, or a curve, that has no name in KMIP.
+#[tactic(auto, unfolding(crate::specs::Told::has_no_name))]
 fn has_no_name(label: Label, der: &[u8]) -> bool
     ensures { result ≡ has_no_name label der.now }
 {
@@ -189,6 +193,7 @@ fn key_told(label: Label, der: &[u8]) -> Result<Told, NoObject>
 }
 
 /// What KMIP is told of DER, which has to be what its label says.
+#[tactic(auto, unfolding(crate::specs::Told::told_of))]
 pub fn told_of(label: Label, der: &[u8]) -> Result<Told, NoObject>
     ensures { result ≡ told_of label der.now }
 {
