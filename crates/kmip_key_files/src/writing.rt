@@ -1,5 +1,7 @@
 //! The file of a key block or of a certificate.
-ghost use Rattle.std.specs.Prelude.{◌≡◌, ◌<◌, ◌≤◌, ◌^◌, All, length, map, IfOk, IfErr};
+ghost use Rattle.std.specs.Prelude.{◌≡◌, ◌<◌, ◌≤◌, ◌^◌, All, length, map, option_map, true};
+ghost use Rattle.std.specs.Prelude.{IfSome, IfOk, IfErr};
+ghost use Rattle.kmip_der.specs.Keys.{is_point};
 ghost use Rattle.kmip_der.specs.Curve.{curve_view, curve_with};
 ghost use Rattle.kmip_der.specs.CurveTable.{curves};
 ghost use Rattle.kmip_pem.specs.Written.{pem_text};
@@ -142,13 +144,32 @@ fn numbers_file(alloc: Global, numbers: &[&[u8]]) -> Result<File, WriteError>
     }
 }
 
+/// The curve with this number, whose name is short.
+#[tactic(auto, using(crate::proofs::Short::short_name))]
+fn curve_of(number: u32) -> Option<&'static Curve>
+    ensures value { option_map (λ curve. curve_view curve.now) result ≡ curve_with curves number }
+    ensures named { IfSome result (λ curve. length curve.now.name.now < 128) }
+{
+    curve_numbered(number)
+}
+
+/// Whether bytes are a point of a curve, which are not many.
+#[tactic(auto, using(crate::proofs::Short::short_point))]
+fn is_point_of(curve: &Curve, point: &[u8]) -> bool
+    ensures value { result ≡ is_point (curve_view curve.now) point.now }
+    ensures short { result ≡ true → length point.now < 2 ^ 24 }
+{
+    let _bits = curve.bits;
+    is_point(curve, point)
+}
+
 /// ECPrivateKey of the number of a private key.
 fn ec_private_file(alloc: Global, curve: u32, number: &[u8]) -> Result<File, WriteError>
     ensures written { IfOk result (IsFile (ec_private_file number.now (curve_with curves curve))) }
     ensures refused { IfErr result
         (IsUnwritten (ec_private_file number.now (curve_with curves curve))) }
 {
-    let Some(curve) = curve_numbered(curve) else {
+    let Some(curve) = curve_of(curve) else {
         return refused(NoFile::NoCurve);
     };
     if let Some(why) = number_fault(number) {
@@ -169,10 +190,10 @@ fn ec_public_file(alloc: Global, curve: u32, point: &[u8]) -> Result<File, Write
     ensures refused { IfErr result
         (IsUnwritten (ec_public_file point.now (curve_with curves curve))) }
 {
-    let Some(curve) = curve_numbered(curve) else {
+    let Some(curve) = curve_of(curve) else {
         return refused(NoFile::NoCurve);
     };
-    if !is_point(curve, point) {
+    if !is_point_of(curve, point) {
         return refused(NoFile::NoPoint);
     }
     match point_der(alloc, curve, point) {
