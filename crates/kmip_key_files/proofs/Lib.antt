@@ -1,4 +1,4 @@
 pub mod Steps
 pub mod Telling
-pub mod Writing
+pub mod Written
 pub mod Short

@@ -2,6 +2,8 @@
 #![tactic(auto)]
 
 mod block;
+mod curve_name_table;
+mod curve_names;
 mod der;
 mod formats;
 mod forms;
@@ -11,6 +13,7 @@ mod told;
 mod writing;
 
 pub use block::{Block, Material, RsaNumbers};
+pub use curve_names::curve_called;
 pub use der::Der;
 pub use formats::{File, in_format};
 pub use forms::{key_format, label_of, object_type};

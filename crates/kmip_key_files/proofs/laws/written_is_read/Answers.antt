@@ -1,4 +1,4 @@
-use Rattle.kmip_key_files.proofs.Writing.{type_kept, is_told, is_told_in_pem}
+use Rattle.kmip_key_files.proofs.Written.{type_kept, is_told, is_told_in_pem}
 use Rattle.kmip_key_files.proofs.laws.written_is_read.Goals as goal
 
 pub returns : goal.returns
