@@ -1,7 +1,7 @@
 //! A private key of each curve that KMIP 1.2 names: its number there, the bits of the field, the key as
 //! `openssl ecparam -genkey` made it and `openssl ec -no_public` writes it, and its number by
 //! `openssl asn1parse`.
-use kmip_key_files::{Block, Label, Material, read_der, write_der};
+use kmip_key_files::{Block, Label, Material, curve_called, read_der, write_der};
 use std::alloc::Global;
 use std::process::Abort;
 
@@ -516,5 +516,30 @@ fn is_of_its_curve(
 fn keys_of_each_curve_are_told_and_written(rt: HostRuntime) {
     for row in KEYS {
         is_of_its_curve(&rt, rt.alloc(), row);
+    }
+}
+
+/// Names of KMIP 1.2 (9.1.3.2.5) and of SEC 2 (A.2 and A.3), and others.
+const NAMES: &[(&[u8], Option<u32>)] = &[
+    (b"P-256", Some(7)),
+    (b"prime256v1", Some(7)),
+    (b"secp256r1", Some(7)),
+    (b"secp192r1", Some(1)),
+    (b"K-163", Some(2)),
+    (b"SECP256K1", Some(25)),
+    (b"ANSIX9P192V2", Some(34)),
+    (b"BRAINPOOLP512T1", Some(68)),
+    (b"SM2", None),
+    (b"p-256", None),
+    (b"", None),
+];
+
+#[test]
+fn curves_have_their_usual_names(rt: HostRuntime) {
+    for (name, curve, ..) in KEYS {
+        assert!(rt; curve_called(name.as_bytes()) == Some(*curve), "{name}");
+    }
+    for (name, curve) in NAMES {
+        assert!(rt; curve_called(*name) == *curve, "{curve:?}");
     }
 }
