@@ -1,5 +1,5 @@
 -- The name of a curve of the table is short, and so is a point.
-use Rattle.std.proofs.Common.{◌≡◌, ℕ, ◌+◌, ◌<◌, ◌^◌, ◌==◌, Bool, true, false, ◌&&◌, ◌||◌, List, [], ◌∷◌, length, cond, Some, refl, sym, ap, ◌∙◌, inl, inr, arith, if◌then◌else◌}
+use Rattle.std.proofs.Common.{◌≡◌, ℕ, ◌+◌, ◌<◌, ◌^◌, ◌==◌, Bool, true, false, ◌&&◌, ◌||◌, List, [], ◌∷◌, length, cond, Option, Some, None, option_map, IfSome, refl, sym, ap, ◌∙◌, inl, inr, arith, if◌then◌else◌}
 use Rattle.std.specs.Prelude.{nat_lt}
 use Rattle.std.specs.List.{find, list_all}
 use Rattle.std.proofs.lemmas.Bool.{eqb-true}
@@ -27,6 +27,11 @@ has_short_name curve = nat_lt (length curve.name) 128
 pub short_name : (number : ℕ) (curve : Curve) → curve_with curves number ≡ Some curve → length curve.name < 128
 short_name number curve h =
     ltb-true _ _ (of_found (λ c. c.number == number) has_short_name curves curve refl h)
+
+pub named_short : {X : Type 0} (number : ℕ) (o : Option X) (f : X → Curve) → option_map f o ≡ curve_with curves number
+    → IfSome o (λ x. length (f x).name < 128)
+named_short number None f h = tt
+named_short number (Some x) f h = short_name number (f x) (sym h)
 
 point_len : (four : Bool) (a n f : ℕ) → (if four then n == f + f else (a == 2 || a == 3) && n == f) ≡ true
     → f < 9000 → n < 20000

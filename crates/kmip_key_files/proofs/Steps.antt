@@ -2,10 +2,16 @@
 use Rattle.std.proofs.Common.{◌≡◌, ℕ, ◌==◌, Bool, true, false, ◌&&◌, List, [], ◌∷◌, cond, Option, Some, None, Result, Ok, Err, refl, sym, ap, ◌∙◌, ◌⊎◌, inl, inr}
 use Rattle.std.specs.List.{find}
 
-pub same_ok : {A E : Type 0} (x y : A) → (Ok {T = A} {E = E} x) ≡ Ok y → x ≡ y
+abbrev pub ok_in : (A E : Type 0) → A → Result A E
+ok_in A E x = Ok x
+
+abbrev pub err_in : (A E : Type 0) → E → Result A E
+err_in A E e = Err e
+
+pub same_ok : {A E : Type 0} (x y : A) → ok_in A E x ≡ Ok y → x ≡ y
 same_ok x y h = cc
 
-pub no_error : {A E : Type 0} (e : E) (x : A) → (Err {T = A} {E = E} e) ≡ Ok x → ⊥
+pub no_error : {A E : Type 0} (e : E) (x : A) → err_in A E e ≡ Ok x → ⊥
 no_error e x h = cc
 
 -- a test that had to hold

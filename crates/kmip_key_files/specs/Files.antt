@@ -68,6 +68,10 @@ rsa_private_file None = Err NoNumber
 rsa_private_file (Some numbers) =
     file_unless (numbers_fault numbers) (checked_file RsaPrivateKey (rsa_private_der numbers))
 
+-- a curve by its number (KMIP 1.2, 9.1.3.2.5)
+unfoldable pub curve_numbered : ℕ → Option Curve
+curve_numbered number = curve_with curves number
+
 -- a number in no more bytes than the order of its curve has (RFC 5915, 3)
 abbrev pub ec_private_file : List ℕ → Option Curve → Result File NoFile
 ec_private_file number None = Err NoCurve
@@ -108,9 +112,9 @@ material_file kind (RsaPublic modulus exponent) =
 material_file kind (RsaPrivate numbers) =
     file_of_type 4 kind (rsa_private_file (numbers_in numbers))
 material_file kind (EcPublic curve point) =
-    file_of_type 3 kind (ec_public_file point.now (curve_with curves curve))
+    file_of_type 3 kind (ec_public_file point.now (curve_numbered curve))
 material_file kind (EcPrivate curve number) =
-    file_of_type 4 kind (ec_private_file number.now (curve_with curves curve))
+    file_of_type 4 kind (ec_private_file number.now (curve_numbered curve))
 material_file kind Other = Err OtherFormat
 
 abbrev pub has_files : ℕ → Bool

@@ -2,14 +2,13 @@
 ghost use Rattle.std.specs.Prelude.{◌≡◌, ◌<◌, ◌≤◌, ◌^◌, All, length, map, option_map, true};
 ghost use Rattle.std.specs.Prelude.{IfSome, IfOk, IfErr};
 ghost use Rattle.kmip_der.specs.Keys.{is_point};
-ghost use Rattle.kmip_der.specs.Curve.{curve_view, curve_with};
-ghost use Rattle.kmip_der.specs.CurveTable.{curves};
+ghost use Rattle.kmip_der.specs.Curve.{curve_view};
 ghost use Rattle.kmip_pem.specs.Written.{pem_text};
 ghost use Rattle.kmip_key_files.specs.Found.{IsFile, IsUnwritten};
 ghost use Rattle.kmip_key_files.specs.Files.{checked_file, bytes_file, number_fault, numbers_fault};
 ghost use Rattle.kmip_key_files.specs.Files.{rsa_public_file, rsa_private_file, numbers_in};
 ghost use Rattle.kmip_key_files.specs.Files.{ec_public_file, ec_private_file, material_file};
-ghost use Rattle.kmip_key_files.specs.Files.{has_files, file_of, pem_of};
+ghost use Rattle.kmip_key_files.specs.Files.{curve_numbered, has_files, file_of, pem_of};
 
 use crate::block::{Block, Material, RsaNumbers};
 use crate::der::{Der, joined};
@@ -112,13 +111,22 @@ fn rsa_private_file(alloc: Global, rsa: &RsaNumbers<'_>) -> Result<File, WriteEr
     ensures written { IfOk result (IsFile (rsa_private_file (numbers_in rsa.now))) }
     ensures refused { IfErr result (IsUnwritten (rsa_private_file (numbers_in rsa.now))) }
 {
-    let (Some(e), Some(d)) = (rsa.public_exponent, rsa.private_exponent) else {
+    let Some(e) = rsa.public_exponent else {
         return refused(NoFile::NoNumber);
     };
-    let (Some(p), Some(q)) = (rsa.p, rsa.q) else {
+    let Some(d) = rsa.private_exponent else {
         return refused(NoFile::NoNumber);
     };
-    let (Some(dp), Some(dq)) = (rsa.prime_exponent_p, rsa.prime_exponent_q) else {
+    let Some(p) = rsa.p else {
+        return refused(NoFile::NoNumber);
+    };
+    let Some(q) = rsa.q else {
+        return refused(NoFile::NoNumber);
+    };
+    let Some(dp) = rsa.prime_exponent_p else {
+        return refused(NoFile::NoNumber);
+    };
+    let Some(dq) = rsa.prime_exponent_q else {
         return refused(NoFile::NoNumber);
     };
     let Some(crt) = rsa.crt_coefficient else {
@@ -145,9 +153,9 @@ fn numbers_file(alloc: Global, numbers: &[&[u8]]) -> Result<File, WriteError>
 }
 
 /// The curve with this number, whose name is short.
-#[tactic(auto, using(crate::proofs::Short::short_name))]
+#[tactic(auto, unfolding(crate::specs::Files::curve_numbered))]
 fn curve_of(number: u32) -> Option<&'static Curve>
-    ensures value { option_map (λ curve. curve_view curve.now) result ≡ curve_with curves number }
+    ensures value { option_map (λ curve. curve_view curve.now) result ≡ curve_numbered number }
     ensures named { IfSome result (λ curve. length curve.now.name.now < 128) }
 {
     curve_numbered(number)
@@ -165,9 +173,9 @@ fn is_point_of(curve: &Curve, point: &[u8]) -> bool
 
 /// ECPrivateKey of the number of a private key.
 fn ec_private_file(alloc: Global, curve: u32, number: &[u8]) -> Result<File, WriteError>
-    ensures written { IfOk result (IsFile (ec_private_file number.now (curve_with curves curve))) }
+    ensures written { IfOk result (IsFile (ec_private_file number.now (curve_numbered curve))) }
     ensures refused { IfErr result
-        (IsUnwritten (ec_private_file number.now (curve_with curves curve))) }
+        (IsUnwritten (ec_private_file number.now (curve_numbered curve))) }
 {
     let Some(curve) = curve_of(curve) else {
         return refused(NoFile::NoCurve);
@@ -186,9 +194,9 @@ fn ec_private_file(alloc: Global, curve: u32, number: &[u8]) -> Result<File, Wri
 
 /// X.509 of the point of a public key.
 fn ec_public_file(alloc: Global, curve: u32, point: &[u8]) -> Result<File, WriteError>
-    ensures written { IfOk result (IsFile (ec_public_file point.now (curve_with curves curve))) }
+    ensures written { IfOk result (IsFile (ec_public_file point.now (curve_numbered curve))) }
     ensures refused { IfErr result
-        (IsUnwritten (ec_public_file point.now (curve_with curves curve))) }
+        (IsUnwritten (ec_public_file point.now (curve_numbered curve))) }
 {
     let Some(curve) = curve_of(curve) else {
         return refused(NoFile::NoCurve);
@@ -209,15 +217,35 @@ fn material_file(alloc: Global, kind: u32, material: &Material<'_>) -> Result<Fi
 {
     match material {
         Material::Bytes { format, bytes } => bytes_file(alloc, label_of(kind, *format), *bytes),
-        Material::RsaPublic { modulus, exponent } if kind == 3 => {
-            rsa_public_file(alloc, *modulus, *exponent)
+        Material::RsaPublic { modulus, exponent } => {
+            if kind == 3 {
+                rsa_public_file(alloc, *modulus, *exponent)
+            } else {
+                refused(NoFile::OtherFormat)
+            }
         }
-        Material::RsaPrivate(numbers) if kind == 4 => rsa_private_file(alloc, numbers),
-        Material::EcPublic { curve, point } if kind == 3 => ec_public_file(alloc, *curve, *point),
-        Material::EcPrivate { curve, number } if kind == 4 => {
-            ec_private_file(alloc, *curve, *number)
+        Material::RsaPrivate(numbers) => {
+            if kind == 4 {
+                rsa_private_file(alloc, numbers)
+            } else {
+                refused(NoFile::OtherFormat)
+            }
         }
-        _ => refused(NoFile::OtherFormat),
+        Material::EcPublic { curve, point } => {
+            if kind == 3 {
+                ec_public_file(alloc, *curve, *point)
+            } else {
+                refused(NoFile::OtherFormat)
+            }
+        }
+        Material::EcPrivate { curve, number } => {
+            if kind == 4 {
+                ec_private_file(alloc, *curve, *number)
+            } else {
+                refused(NoFile::OtherFormat)
+            }
+        }
+        Material::Other => refused(NoFile::OtherFormat),
     }
 }
 
@@ -241,9 +269,11 @@ pub fn write_pem(alloc: Global, block: &Block<'_>) -> Result<Secret, WriteError>
     ensures written { IfOk result (λ text. pem_of block.now ≡ Ok text) }
     ensures refused { IfErr result (IsUnwritten (file_of block.now)) }
 {
-    let file = write_der(alloc, block)?;
-    match write(alloc, file.label, file.der.as_slice()) {
-        Ok(text) => Ok(text),
-        Err(_) => Err(WriteError::OutOfMemory),
+    match write_der(alloc, block) {
+        Ok(file) => match write(alloc, file.label, file.der.as_slice()) {
+            Ok(text) => Ok(text),
+            Err(_) => Err(WriteError::OutOfMemory),
+        },
+        Err(error) => Err(error),
     }
 }
