@@ -21,7 +21,7 @@ use Rattle.kmip_key_files.specs.declared.block.Material.TheVariants.{Bytes, RsaP
 use Rattle.kmip_key_files.specs.Forms.{object_type, format, labels, label_with}
 use Rattle.kmip_key_files.specs.Told.{told_of, told_in_block, told_in_pem}
 use Rattle.kmip_key_files.specs.Formats.{File, der_of, is_same_key, file_told_by, file_with, file_in_format}
-use Rattle.kmip_key_files.specs.Files.{file_if, checked_file, bytes_file, number_fault, numbers_fault, file_unless, rsa_public_file, rsa_private_file, ec_private_file, ec_public_file, file_of_type, numbers_in, material_file, has_files, file_of}
+use Rattle.kmip_key_files.specs.Files.{file_if, checked_file, bytes_file, number_fault, numbers_fault, file_unless, rsa_public_file, rsa_private_file, curve_numbered, ec_private_file, ec_public_file, file_of_type, numbers_in, material_file, has_files, file_of}
 use Rattle.kmip_key_files.proofs.Steps.{same_ok, no_error, tested, failed, both_true, passes}
 
 -- a file with this label that is what it says
@@ -89,11 +89,11 @@ material_written kind (RsaPublic modulus exponent) file h =
     let t = of_type 3 kind _ file h in
     (RsaPublicKey, sym t.0, checked RsaPublicKey _ file (unless _ _ file t.1))
 material_written kind (RsaPrivate numbers) file h =
-    let t = of_type 4 kind _ file h in (RsaPrivateKey, sym t.0, rsa_private_written _ file t.1)
+    let t = of_type 4 kind _ file h in (RsaPrivateKey, sym t.0, rsa_private_written (numbers_in numbers) file t.1)
 material_written kind (EcPublic curve point) file h =
-    let t = of_type 3 kind _ file h in (PublicKey, sym t.0, ec_public_written _ _ file t.1)
+    let t = of_type 3 kind _ file h in (PublicKey, sym t.0, ec_public_written point.now (curve_numbered curve) file t.1)
 material_written kind (EcPrivate curve number) file h =
-    let t = of_type 4 kind _ file h in (EcPrivateKey, sym t.0, ec_private_written _ _ file t.1)
+    let t = of_type 4 kind _ file h in (EcPrivateKey, sym t.0, ec_private_written number.now (curve_numbered curve) file t.1)
 material_written kind Other file h = absurd (no_error _ file h)
 
 block_written : (block : Block) (file : File) → file_of block ≡ Ok file → OfType block.object_type file
