@@ -1,5 +1,5 @@
-//! Keys that are told by their parts. The numbers are those of `openssl asn1parse`, as Big Integers of KMIP
-//! (1.0, 9.1.1.4: their length is a multiple of eight bytes), and the files are those of openssl.
+//! Keys that are told by their parts. The numbers are those of `openssl asn1parse`, as Big Integers
+//! (KMIP 1.0, 9.1.1.4: their length is a multiple of eight bytes), and the files are openssl's.
 use kmip_key_files::{Block, Label, Material, NoFile, RsaNumbers, WriteError, write_der};
 use std::alloc::Global;
 use std::process::Abort;
@@ -175,6 +175,7 @@ fn a_public_key_of_rsa(rt: HostRuntime) {
         exponent: &[0x80],
     };
     is_refused(&rt, alloc, 3, negative, NoFile::Negative);
+    assert!(rt; modulus.len() > 8);
     let negative = Material::RsaPublic {
         modulus: &modulus[8..],
         exponent: &exponent,

@@ -1,5 +1,5 @@
-//! Files that are not told to KMIP, and objects that have no file, each with its reason. The keys are those
-//! of openssl.
+//! Files that are not told to KMIP, and objects that have no file, each with its reason. The keys are
+//! those of openssl.
 use kmip_key_files::{
     Block, Label, Material, NoFile, NoObject, NoPem, ReadError, WriteError, read_der, read_pem,
     told_of, write_der, write_pem,
@@ -323,6 +323,7 @@ fn blocks_are_refused(rt: HostRuntime) {
 #[test]
 fn a_certificate_is_one_alone(rt: HostRuntime) {
     let der = hex::decode(rt.alloc(), CERTIFICATE).expect(&rt, "hex");
+    assert!(rt; der.len() > 1);
     assert!(rt; told_of(Label::PublicKey, &der) == Err(NoObject::OtherDer));
     assert!(rt; told_of(Label::PrivateKey, &der) == Err(NoObject::OtherDer));
     assert!(rt; told_of(Label::Certificate, &der[1..]) == Err(NoObject::OtherDer));
