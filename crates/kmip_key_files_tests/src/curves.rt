@@ -1,6 +1,6 @@
-//! A private key of each curve that KMIP 1.2 names: openssl's name, the number in KMIP, the bits of the
-//! field, the key by `openssl ecparam -genkey` as `openssl ec -no_public` writes it, and its number by
-//! `openssl asn1parse`.
+//! A private key of each curve that KMIP 1.2 names: openssl's name, the number in KMIP, the bits of
+//! the field, the key by `openssl ecparam -genkey` as `openssl ec -no_public` writes it, and its
+//! number by `openssl asn1parse`.
 use kmip_key_files::{Block, Label, Material, curve_called, read_der, write_der};
 use std::alloc::Global;
 use std::process::Abort;

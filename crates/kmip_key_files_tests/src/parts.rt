@@ -234,7 +234,7 @@ fn a_point(rt: HostRuntime) {
     }
 }
 
-/// What stands before 64 bytes that are no point of P-256 then: nothing, a zero, a zero too many, and 7.
+/// What stands before 64 bytes that are no point of P-256: nothing, a zero, a zero too many, and 7.
 const NO_POINTS: &[&str] = &["", "00", "0400", "07"];
 
 #[test]
