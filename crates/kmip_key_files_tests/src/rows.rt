@@ -1,5 +1,5 @@
 //! Keys and a certificate that openssl made, as it writes them in PEM and in DER. The algorithm and
-//! the length are those of `openssl pkey -text`, of K-233 by the field that `openssl ecparam` tells.
+//! the length are those of `openssl pkey -text`, of K-233 by the field in `openssl ecparam`.
 
 /// A file, and what KMIP is told of it.
 pub(crate) struct Row {
