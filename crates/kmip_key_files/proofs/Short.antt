@@ -36,7 +36,8 @@ named_short number (Some x) f h = short_name number (f x) (sym h)
 point_len : (four : Bool) (a n f : ℕ) → (if four then n == f + f else (a == 2 || a == 3) && n == f) ≡ true
     → f < 9000 → n < 20000
 point_len true a n f h b = let e = eqb-true n (f + f) h in omega arith
-point_len false a n f h b = let e = eqb-true n f (both_true _ _ h).1 in omega arith
+point_len false a n f h b =
+    let e : n ≡ f = eqb-true n f (both_true (a == 2 || a == 3) (n == f) h).1 in omega arith
 
 pub short_point : (curve : Curve) (point : List ℕ) → is_point curve point ≡ true → curve.bits < 65536
     → length point < 2 ^ 24

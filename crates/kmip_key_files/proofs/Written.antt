@@ -91,9 +91,11 @@ material_written kind (RsaPublic modulus exponent) file h =
 material_written kind (RsaPrivate numbers) file h =
     let t = of_type 4 kind _ file h in (RsaPrivateKey, sym t.0, rsa_private_written (numbers_in numbers) file t.1)
 material_written kind (EcPublic curve point) file h =
-    let t = of_type 3 kind _ file h in (PublicKey, sym t.0, ec_public_written point.now (curve_numbered curve) file t.1)
+    let t = of_type 3 kind _ file h in
+    (PublicKey, sym t.0, ec_public_written point.now (curve_numbered curve) file t.1)
 material_written kind (EcPrivate curve number) file h =
-    let t = of_type 4 kind _ file h in (EcPrivateKey, sym t.0, ec_private_written number.now (curve_numbered curve) file t.1)
+    let t = of_type 4 kind _ file h in
+    (EcPrivateKey, sym t.0, ec_private_written number.now (curve_numbered curve) file t.1)
 material_written kind Other file h = absurd (no_error _ file h)
 
 block_written : (block : Block) (file : File) → file_of block ≡ Ok file → OfType block.object_type file
