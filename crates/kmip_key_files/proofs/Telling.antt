@@ -1,15 +1,14 @@
 -- What is a private key is told as one.
-use Rattle.std.proofs.Common.{◌≡◌, ℕ, ◌==◌, Bool, true, false, ◌||◌, List, Option, Some, None, Result, Ok, Err, refl, sym, ap, ◌∙◌, is_some, if◌then◌else◌}
+use Rattle.std.proofs.Common.{◌≡◌, ℕ, Bool, true, false, ◌||◌, List, Option, Some, None, Result, Ok, Err, refl, sym, ap, ◌∙◌, is_some, if◌then◌else◌}
 use Rattle.kmip_der.specs.Keys.{Known, rsa_public, spki, is_private, is_public, is_certificate}
 use Rattle.kmip_pem.specs.declared.labels.Label.{Label}
 use Rattle.kmip_pem.specs.declared.labels.Label.TheVariants.{RsaPublicKey, PublicKey, RsaPrivateKey, PrivateKey, EcPrivateKey, Certificate}
 use Rattle.kmip_pem.specs.Pem.{Pem, pem_in}
-use Rattle.kmip_key_files.specs.declared.told.KeyFacts.{KeyFacts}
 use Rattle.kmip_key_files.specs.declared.told.Told.{Told}
 use Rattle.kmip_key_files.specs.declared.refusal.NoObject.{NoObject}
 use Rattle.kmip_key_files.specs.declared.refusal.NoObject.TheVariants.{NoName, OtherDer, NoKey, NoLength}
 use Rattle.kmip_key_files.specs.Forms.{object_type}
-use Rattle.kmip_key_files.specs.Told.{known_in, curve_in_key, has_no_name, is_length, facts, key_told, certificate_told, told_of, label_in, is_nameless, told_in_der, told_in_block, told_in_pem}
+use Rattle.kmip_key_files.specs.Told.{known_in, is_length, key_told, certificate_told, told_of, label_in, is_nameless, told_in_der, told_in_block, told_in_pem}
 use Rattle.kmip_key_files.proofs.Steps.{same_ok, no_error, tested, no_both}
 
 -- the laws of kmip_der

@@ -1,14 +1,13 @@
 -- What is written is of its Object Type, and what its label says.
-use Rattle.std.proofs.Common.{◌≡◌, ℕ, ◌==◌, Bool, true, false, not, ◌&&◌, List, [], ◌∷◌, cond, Option, Some, None, Result, Ok, Err, refl, sym, ap, ◌∙◌, nat_le, length}
+use Rattle.std.proofs.Common.{◌≡◌, ℕ, ◌==◌, true, not, ◌&&◌, List, [], ◌∷◌, Option, Some, None, Result, Ok, Err, refl, sym, ap, ◌∙◌, nat_le, length}
 use Rattle.std.proofs.lemmas.Bool.{eqb-true}
 use Rattle.base64.specs.GeneralPurpose.{IsBytes}
-use Rattle.kmip_der.specs.Curve.{Curve, curve_with}
-use Rattle.kmip_der.specs.CurveTable.{curves}
+use Rattle.kmip_der.specs.Curve.{Curve}
 use Rattle.kmip_der.specs.Keys.{is_point}
 use Rattle.kmip_der.specs.Write.{digits_of}
 use Rattle.kmip_pem.specs.declared.labels.Label.{Label}
-use Rattle.kmip_pem.specs.declared.labels.Label.TheVariants.{RsaPublicKey, PublicKey, RsaPrivateKey, PrivateKey, EcPrivateKey, Certificate}
-use Rattle.kmip_pem.specs.Pem.{Pem, IsPem, pem_in}
+use Rattle.kmip_pem.specs.declared.labels.Label.TheVariants.{RsaPublicKey, PublicKey, RsaPrivateKey, EcPrivateKey}
+use Rattle.kmip_pem.specs.Pem.{IsPem, pem_in}
 use Rattle.kmip_pem.specs.Written.{pem_text}
 use Rattle.kmip_key_files.specs.declared.told.KeyFacts.{KeyFacts}
 use Rattle.kmip_key_files.specs.declared.told.Told.{Told}
@@ -21,7 +20,7 @@ use Rattle.kmip_key_files.specs.declared.block.Material.TheVariants.{Bytes, RsaP
 use Rattle.kmip_key_files.specs.Forms.{object_type, format, labels, label_with}
 use Rattle.kmip_key_files.specs.Told.{told_of, told_in_block, told_in_pem}
 use Rattle.kmip_key_files.specs.Formats.{File, der_of, is_same_key, file_told_by, file_with, file_in_format}
-use Rattle.kmip_key_files.specs.Files.{file_if, checked_file, bytes_file, number_fault, numbers_fault, file_unless, rsa_public_file, rsa_private_file, curve_numbered, ec_private_file, ec_public_file, file_of_type, numbers_in, material_file, has_files, file_of}
+use Rattle.kmip_key_files.specs.Files.{file_if, checked_file, bytes_file, number_fault, numbers_fault, file_unless, rsa_private_file, curve_numbered, ec_private_file, ec_public_file, file_of_type, numbers_in, material_file, has_files, file_of}
 use Rattle.kmip_key_files.proofs.Steps.{same_ok, no_error, tested, failed, both_true, passes}
 
 -- a file with this label that is what it says

@@ -1,6 +1,6 @@
 -- A key in another format: PKCS#8 (RFC 5958, 2) and X.509 (RFC 5280, 4.1.2.7) hold PKCS#1
 -- (RFC 8017, A.1) or ECPrivateKey (RFC 5915, 3).
-use Rattle.std.specs.Prelude.{ℕ, ◌==◌, Bool, true, false, ◌&&◌, List, [], ◌∷◌, ◌++◌, Option, Some, None, Result, Ok, Err, bytes_eq, if◌then◌else◌}
+use Rattle.std.specs.Prelude.{ℕ, ◌==◌, Bool, true, false, ◌&&◌, List, [], ◌∷◌, ◌++◌, Option, Some, None, Result, Ok, Err, if◌then◌else◌}
 use Rattle.std.specs.Option.{option_and_then, option_map}
 use Rattle.kmip_der.specs.Der.{Element, element, tagged, only, past}
 use Rattle.kmip_der.specs.Curve.{Curve}

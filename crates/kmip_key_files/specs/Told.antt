@@ -1,6 +1,6 @@
 -- What KMIP is told of a file: of a key its Cryptographic Algorithm and Length (KMIP 1.0, 3.4, 3.5)
 -- and its curve. The DER has to be what the label says, to its end.
-use Rattle.std.specs.Prelude.{ℕ, ◌==◌, nat_lt, Bool, true, false, ◌&&◌, ◌||◌, not, List, [], ◌∷◌, find, Option, Some, None, Result, Ok, Err, bytes_eq, if◌then◌else◌, is_some}
+use Rattle.std.specs.Prelude.{ℕ, ◌==◌, nat_lt, Bool, false, ◌&&◌, ◌||◌, not, List, [], ◌∷◌, find, Option, Some, None, Result, Ok, Err, bytes_eq, if◌then◌else◌, is_some}
 use Rattle.std.specs.Option.{option_and_then, option_map}
 use Rattle.kmip_der.specs.Der.{Element, tagged, only}
 use Rattle.kmip_der.specs.Curve.{Curve}

@@ -1,4 +1,3 @@
-use Rattle.std.proofs.Common.{ap, ◌∙◌}
 use Rattle.kmip_key_files.proofs.Telling.{private_told, private_in_der, private_in_pem, private_type}
 use Rattle.kmip_key_files.proofs.Written.{is_told}
 use Rattle.kmip_key_files.proofs.laws.private_is_apart.Goals as goal
