@@ -1,4 +1,5 @@
-"""kmip_der: the curves that KMIP recommends, as names in DER, each with its number and its sizes."""
+"""kmip_der: the curves that KMIP recommends, as names in DER, each with its number and its sizes. kmip_key_files: their usual
+names."""
 
 import sys
 
@@ -26,6 +27,29 @@ curves =
     []
 """
 
+NAMES_SOURCE = """\
+//! The usual names of the curves that KMIP recommends.
+use crate::curve_names::Named;
+
+/// The names of KMIP 1.2, of openssl and of SEC 2, in the order of their numbers.
+pub(crate) const NAMES: &[Named] = &[
+{rows}
+];
+"""
+
+NAMES_ROW = 'Named {{ name: b"{name}", number: {number} }},'
+
+NAMES_SPEC = """\
+-- The usual names of the curves of KMIP 1.2 (9.1.3.2.5): its own, openssl's and those of SEC 2.
+use Rattle.std.specs.Prelude.{{List, [], ◌∷◌, codes}}
+use Rattle.kmip_key_files.specs.CurveNames.{{Named, named}}
+
+abbrev pub names : List Named
+names =
+{rows}
+    []
+"""
+
 
 def oid_bytes(oid):
     """The contents of an object identifier: 1.2.840 to 42, 134, 72."""
@@ -46,7 +70,7 @@ def read_curves(table, enumerations):
     curves = table["curves"]
     if set(curves) != {value.text for value in values}:
         sys.exit("tables/curves.toml: its names are not those of RecommendedCurve")
-    return [{"number": value.number, **curves[value.text]} for value in values]
+    return [{"number": value.number, "text": value.text, **curves[value.text]} for value in values]
 
 
 def files(tables):
@@ -63,3 +87,10 @@ def files(tables):
     ]
     yield "crates/kmip_der/src/curve_table.rt", SOURCE.format(rows="\n".join(source))
     yield "crates/kmip_der/specs/CurveTable.antt", SPEC.format(rows="\n".join(spec))
+    names = [(name, row["number"]) for row in tables["curves"] for name in [row["text"], *row["names"]]]
+    if len({name for name, _ in names}) != len(names):
+        sys.exit("tables/curves.toml: a name stands there twice")
+    source = [NAMES_ROW.format(name=name, number=number) for name, number in names]
+    spec = [f'    named (codes "{name}") {number} ∷' for name, number in names]
+    yield "crates/kmip_key_files/src/curve_name_table.rt", NAMES_SOURCE.format(rows="\n".join(source))
+    yield "crates/kmip_key_files/specs/CurveNameTable.antt", NAMES_SPEC.format(rows="\n".join(spec))

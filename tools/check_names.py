@@ -178,9 +178,9 @@ def check_clients():
 
 def check_curves():
     """The rows of the curves, in code and in specs."""
-    wanted = {}
+    wanted, usual = {}, {}
     for line in lines_of("curves.txt"):
-        number, _, name, bits, octets = line.split()
+        number, usual[int(number)], name, bits, octets = line.split()
         wanted[int(number)] = (list(bytes.fromhex(name)), int(bits), int(octets))
     rows = {
         "curve_table.rt": re.findall(
@@ -198,6 +198,18 @@ def check_curves():
         }
         expect(f"kmip_der, {file}", by_number, wanted)
         expect(f"kmip_der, {file}", {"rows": len(found)}, {"rows": len(wanted)})
+    names = {
+        "curve_name_table.rt": r'name: b"([^"]+)",\s+number: (\d+)',
+        "CurveNameTable.antt": r'named \(codes "([^"]+)"\) (\d+) ∷',
+    }
+    for file, row in names.items():
+        text = read("kmip_key_files", "src" if file.endswith(".rt") else "specs", file)
+        by_name = {name: int(number) for name, number in re.findall(row, text)}
+        expect(
+            f"kmip_key_files, {file}",
+            {name: by_name.get(name) for name in usual.values()},
+            {name: number for number, name in usual.items()},
+        )
 
 
 # Where PyKMIP has another mark than KMIP: what may be left out there, though it is needed; Key Value, which

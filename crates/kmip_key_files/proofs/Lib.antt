@@ -1,0 +1,4 @@
+pub mod Steps
+pub mod Telling
+pub mod Written
+pub mod Short

@@ -1,0 +1,7 @@
+pub mod Forms
+pub mod Told
+pub mod Formats
+pub mod Files
+pub mod Found
+pub mod CurveNames
+pub mod CurveNameTable
