@@ -129,7 +129,8 @@ static void add_reason(kmip_client *client, int which, const char *front, const 
 /* The server at hand has failed: it is not tried again in this call, and left out for a while. */
 static void server_fails(kmip_client *client, const char *why) {
     client->tried |= UINT32_C(1) << client->at;
-    double pause = kmip_servers_failed(client->servers, client->at, client->refused, why);
+    double pause =
+        kmip_servers_failed(client->servers, client->at, client->opened_at, client->refused, why);
     add_reason(client, client->at, "", why);
     if (client->servers->count > 1)
         kmip_log_event(client, KMIP_EVENT_SERVER_OUT, KMIP_LOST, "%s: it is left out for %.1f s",
@@ -163,8 +164,9 @@ int kmip_open_any(kmip_client *client) {
                         .port = server->port,
                         .name = client->server_name,
                         .time = share_of(client, CONNECT_SECONDS)};
-        client->wire = kmip_wire_open(&way, &status, &client->refused, &why);
         client->opened_at = kmip_now();
+        client->wire = kmip_wire_open(&way, &status, &client->refused, &why);
+        if (client->wire) client->opened_at = kmip_now();
         if (client->wire) return KMIP_ANSWERED;
         if (status == KMIP_NO_MEMORY) {
             snprintf(client->reasons, sizeof client->reasons, "%s", why.text);

@@ -156,8 +156,11 @@ HIDDEN const char *kmip_wrong_server(const char *host, const char *port);
    out is still tried where there is no other, but not where it refused the certificate. */
 HIDDEN int kmip_servers_next(kmip_servers *servers, uint32_t tried);
 
-/* It has failed: for how long it is left out. It has answered: whether it had failed before. */
-HIDDEN double kmip_servers_failed(kmip_servers *servers, int which, bool refused, const char *why);
+/* A connection of it has failed, or the try of one, that began at this time: for how long it is left
+   out. What began before it failed last has failed with that. It has answered: whether it had failed
+   before. */
+HIDDEN double kmip_servers_failed(kmip_servers *servers, int which, double began, bool refused,
+                                  const char *why);
 HIDDEN bool kmip_servers_answered(kmip_servers *servers, int which);
 
 /* Whether it has answered, or failed, at this time or later. */
@@ -169,7 +172,7 @@ HIDDEN double kmip_servers_out(kmip_servers *servers, int which, bool *refused, 
 
 struct kmip_client {
     kmip_wire *wire;    /* a null pointer once the connection is lost */
-    double opened_at;   /* when it was opened, by kmip_now */
+    double opened_at;   /* when it was opened, by kmip_now; or the try of that began */
     kmip_process owner; /* the process that opened it */
     char *user, *password;
     kmip_servers *servers;

@@ -169,25 +169,35 @@ int kmip_servers_next(kmip_servers *servers, uint32_t tried) {
     return next;
 }
 
-double kmip_servers_failed(kmip_servers *servers, int which, bool refused, const char *why) {
-    kmip_server *it = &servers->at[which];
+/* How long a server is left out that has failed so often before. */
+static double pause_after(unsigned failures) {
     uint8_t byte = 128;
     char reason[160];
     double pause = FIRST_PAUSE;
     /* (without random bytes it is the pause itself) */
     (void)kmip_random(&byte, 1, reason, sizeof reason);
-    lock(servers);
-    for (unsigned i = 0; i < it->failures && pause < LAST_PAUSE; i++)
+    for (unsigned i = 0; i < failures && pause < LAST_PAUSE; i++)
         pause *= 2;
     if (pause > LAST_PAUSE) pause = LAST_PAUSE;
-    pause *= 1 + VARIES * ((double)byte / 127.5 - 1);
-    it->failures++;
-    it->refused = refused;
-    it->failed_at = kmip_now();
-    it->out_until = it->failed_at + pause;
-    snprintf(it->why, sizeof it->why, "%s", why);
+    return pause * (1 + VARIES * ((double)byte / 127.5 - 1));
+}
+
+double kmip_servers_failed(kmip_servers *servers, int which, double began, bool refused,
+                           const char *why) {
+    kmip_server *it = &servers->at[which];
+    lock(servers);
+    double now = kmip_now();
+    /* All connections that a server had end with it, and that is one failure. */
+    bool is_new = it->failures == 0 || began >= it->failed_at;
+    if (is_new) {
+        it->failed_at = now;
+        it->out_until = now + pause_after(it->failures++);
+        it->refused = refused;
+        snprintf(it->why, sizeof it->why, "%s", why);
+    }
+    double left = it->out_until - now;
     unlock(servers);
-    return pause;
+    return left > 0 ? left : 0;
 }
 
 bool kmip_servers_answered(kmip_servers *servers, int which) {

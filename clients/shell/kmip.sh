@@ -66,6 +66,41 @@ fi
 #                          the one before was given up, however that ended
 #   KMIP_LOG               a file with no name, in which openssl says what is wrong
 
+# Leaves in KMIP_ESCAPES what sed does with a text so that a terminal shows it all: what it would act on, as ESC, C1's controls
+# and U+202E, which turns the direction, becomes JSON's escape. Bytes stand for characters, in C's locale.
+kmip_make_escapes() {
+    local range code bytes made
+    KMIP_ESCAPES='/[\x01-\x1F\x7F\xC2\xD8\xE1\xE2\xEF]/!b'
+    for range in 1-31 127-159 173-173 1564-1564 6158-6158 8203-8207 8232-8238 8288-8303 65279-65279 65529-65531; do
+        for ((code = ${range%-*}; code <= ${range#*-}; code++)); do
+            if ((code < 128)); then
+                printf -v bytes '\\x%02X' "$code"
+            elif ((code < 2048)); then
+                printf -v bytes '\\x%02X\\x%02X' $((192 | code >> 6)) $((128 | code & 63))
+            else
+                printf -v bytes '\\x%02X\\x%02X\\x%02X' $((224 | code >> 12)) $((128 | code >> 6 & 63)) $((128 | code & 63))
+            fi
+            printf -v made '\ns/%s/\\\\u%04X/g' "$bytes" "$code"
+            KMIP_ESCAPES+=$made
+        done
+    done
+}
+kmip_make_escapes
+
+# Copies what is read with these escapes.
+kmip_shown() {
+    LC_ALL=C sed "$KMIP_ESCAPES" 2>/dev/null
+}
+
+# Says a line on standard error, with these escapes.
+kmip_says() { # FORMAT TEXT..
+    local text
+    # shellcheck disable=SC2059 # it is a format
+    printf -v text "$@"
+    # (as one record, so that a line's end within it is escaped)
+    printf '%s\n' "$(printf %s "$text" | LC_ALL=C sed -z "$KMIP_ESCAPES")" >&2
+}
+
 # Leaves in KMIP_WORD the word that stands for a text in a call: what is special is written as % and two hex digits.
 kmip_escape() { # TEXT
     local LC_ALL=C text=$1 at
@@ -322,7 +357,7 @@ kmip_can_open() { # CERTIFICATE KEY AUTHORITY
     elif ! openssl s_client -help 2>&1 | grep -q -e -nocommands; then
         missing+="$(openssl version) is too old: 3.0 is needed; "
     fi
-    [[ -z $missing ]] || printf 'kmip_open: %s\n' "${missing%; }" >&2
+    [[ -z $missing ]] || kmip_says 'kmip_open: %s' "${missing%; }"
     [[ -z $missing ]]
 }
 
@@ -374,11 +409,11 @@ kmip_open() { # HOST:PORT CERTIFICATE KEY AUTHORITY
     fi
     if [[ $1 == .* ]]; then
         # openssl would take it for any name below it.
-        printf 'kmip_open: %s is no host\n' "${1%:*}" >&2
+        kmip_says 'kmip_open: %s is no host' "${1%:*}"
         return 2
     fi
     if ! kmip_is_port "${1##*:}"; then
-        printf 'kmip_open: %s is no port: a number of 1 to 65535, or the name of a service\n' "${1##*:}" >&2
+        kmip_says 'kmip_open: %s is no port: a number of 1 to 65535, or the name of a service' "${1##*:}"
         return 2
     fi
     if [[ -n ${KMIP_PID-} ]] && ! kmip_is_lost; then
@@ -443,7 +478,7 @@ kmip_reasons() {
     sed -nE 's/^verify error:num=[0-9]+:/kmip: certificate: /p
         s/^[0-9A-F]+:error:[^:]*:[^:]*:[^:]*:([^:]*):[^:]*:[0-9]*:(.+)/kmip: openssl: \1 (\2)/p
         s/^[0-9A-F]+:error:[^:]*:[^:]*:[^:]*:([^:]*):[^:]*:[0-9]*:$/kmip: openssl: \1/p
-        s/^(Could|Can.t|Error) .*/kmip: openssl: &/p' "/proc/self/fd/$KMIP_LOG" | sort -u >&2
+        s/^(Could|Can.t|Error) .*/kmip: openssl: &/p' "/proc/self/fd/$KMIP_LOG" | sort -u | kmip_shown >&2
 }
 
 # Ends the connection for a reason, whose line it writes; the status is that of a connection that is lost.
@@ -457,7 +492,7 @@ kmip_lose() { # ERROR TEXT
 # Ends the connection since an answer cannot be written, which it says on standard error; the status is 4.
 kmip_not_written() { # TEXT
     kmip_end
-    printf 'kmip: %s\n' "$1" >&2
+    kmip_says 'kmip: %s' "$1"
     return 4
 }
 
@@ -483,7 +518,7 @@ kmip_seconds() { # MICROSECONDS
 
 # Makes one call, in a shell of its own, whose end unlocks the connection.
 kmip_make() { # WORD..
-    local status KMIP_MINE KMIP_SECONDS
+    local status shown KMIP_MINE KMIP_SECONDS
     if ! kmip_lock; then
         kmip_fails RequestWriteError 'another call is made on the connection; nothing was sent'
         return 3
@@ -513,8 +548,11 @@ kmip_make() { # WORD..
         return
     fi
     trap 'kmip_end; trap - INT; kill -INT "$BASHPID"' INT
-    timeout --foreground -k 1 "$KMIP_SECONDS" "$@" 2>&1 <&"$KMIP_IN" >&"$KMIP_OUT"
-    status=$?
+    # (who reads the answer may never do so: that too has its time)
+    timeout --foreground -k 1 "$KMIP_SECONDS" "$@" 2>&1 <&"$KMIP_IN" >&"$KMIP_OUT" |
+        LC_ALL=C timeout --foreground -k 1 "$KMIP_SECONDS" sed "$KMIP_ESCAPES" 2>/dev/null
+    status=${PIPESTATUS[0]} shown=${PIPESTATUS[1]}
+    if ((status <= 2 && shown > 0)); then status=4; fi
     case $status in
     0 | 1 | 2) : >|"/proc/self/fd/$KMIP_MINE" ;;
     3 | 5) kmip_end && kmip_reasons ;;
@@ -524,7 +562,7 @@ kmip_make() { # WORD..
     *) kmip_lose ResponseReadError "kmip_call was ended: status $status" ;;
     esac
     ((status <= 5)) || status=3
-    return $status
+    return "$status"
 }
 
 # Leaves in KMIP_DEADLINE the microseconds of KMIP_TIMEOUT.
@@ -619,15 +657,27 @@ kmip_makes() { # CALL WORD..
     esac
 }
 
+# Writes the field of an answer, by the program KMIP_FIELD. What jq says may have a part of the answer.
+kmip_find() { # ANSWER
+    local out said status=0
+    [[ -e /proc/self/fd/1 ]] || return 2
+    exec {out}>&1
+    said=$(jq -r "$KMIP_FIELD" 2>&1 >&"$out" < <(printf '%s\n' "$1")) || status=$?
+    exec {out}>&-
+    [[ -z $said ]] || printf '%s\n' "$said" | kmip_shown >&2
+    return "$status"
+}
+
 # Makes a call, and writes one field of its answer, as unique_identifier or operations[0]. An error goes to standard error.
 # A field that is false is one; one that is null is none, and so is what would be another without the rounding of jq. What is
 # said of an answer shows nothing of it, since that may be a key; but the identifiers of what a call has made are not lost. The
 # field is read before the call is made.
 kmip_field() { # FIELD CALL WORD..
-    local field=${1-} answer status=0 KMIP_FIELD
+    local field=${1-} answer said status=0 KMIP_FIELD
     kmip_field_program "$field"
     kmip_has_jq || return
-    if ! jq "$KMIP_FIELD" </dev/null >/dev/null; then
+    if ! said=$(jq "$KMIP_FIELD" 2>&1 >/dev/null </dev/null); then
+        printf '%s\n' "$said" | kmip_shown >&2
         kmip_fails GrammarError 'jq does not read the field, for the reason before; nothing was sent' >&2
         return 2
     fi
@@ -636,11 +686,11 @@ kmip_field() { # FIELD CALL WORD..
         printf '%s\n' "$answer" >&2
         return $status
     fi
-    jq -r "$KMIP_FIELD" < <(printf '%s\n' "$answer") || status=$?
+    kmip_find "$answer" || status=$?
     case $status in
     0) return 0 ;;
     8) kmip_fails MissingValue 'the field has a number that jq cannot keep, 2^53 or past it; kmip shows it' >&2 ;;
-    9) jq -nc --arg field "$field" '{error: "MissingValue", text: ("the answer has no " + $field)}' >&2 || : ;;
+    9) jq -nc --arg field "$field" '{error: "MissingValue", text: ("the answer has no " + $field)}' | kmip_shown >&2 || : ;;
     3 | 5) kmip_fails MissingValue 'jq does not find the field, for the reason before' >&2 ;;
     *) kmip_not_written 'the field cannot be written' || status=4 ;;
     esac

@@ -6,6 +6,7 @@
 Each request that it has read is a line `PORT OPERATION` in the file READ. It writes `ready` once it listens at 127.0.0.1.
 
 good         always
+names        always, and the line has the identifier of the request, too
 dies         ends as a process once it has read a request
 hangs        reads, and says nothing
 slow         answers after 3 seconds
@@ -22,7 +23,7 @@ import threading
 import time
 
 import fakes
-from ttlv import PENDING, id_of, identified, message_of, operation_of, response
+from ttlv import PENDING, id_of, identified, message_of, operation_of, response, value_of
 
 POLL = 0x1A
 FOR_EVER = 1 << 30      # seconds
@@ -42,7 +43,8 @@ class Server:
     def answer(self, wire, request):
         """Answers a request, and says whether the connection goes on."""
         with open(self.read, 'ab', buffering=0) as file:
-            file.write(b'%d %d\n' % (self.port, operation_of(request)))
+            named = b' ' + value_of(request, '420094', 7) if self.mode == 'names' else b''
+            file.write(b'%d %d%s\n' % (self.port, operation_of(request), named))
         if self.mode == 'dies':
             os._exit(0)     # with all connections, and none of them in order
         if self.mode == 'hangs':

@@ -192,6 +192,28 @@ static void lost(const kmip_settings *settings) {
     kmip_pool_free(pool);
 }
 
+/* All connections of a server end with it, and it is left out as after one failure. */
+static void lost_together(kmip_settings settings) {
+    char servers[200];
+    kmip_client *clients[SIZE];
+    snprintf(servers, sizeof servers, "localhost:%s,127.0.0.1:%s", settings.port, settings.port);
+    settings.server = servers;
+    settings.host = settings.port = NULL;
+    kmip_pool *pool = pool_with(&settings, SIZE);
+    for (size_t i = 0; i < SIZE; i++)
+        clients[i] = taken_of(pool);
+    for (size_t i = 0; i < SIZE; i++)
+        check(kmip_call(clients[i], "activate", "k", NULL) == KMIP_LOST, "all lose their calls");
+    kmip_reason why;
+    bool refused;
+    check(clients[0]->servers->at[0].failures == 1 &&
+              kmip_servers_out(clients[0]->servers, 0, &refused, &why) <= 1.2,
+          "which is one failure of the server");
+    for (size_t i = 0; i < SIZE; i++)
+        kmip_pool_give_back(pool, clients[i]);
+    kmip_pool_free(pool);
+}
+
 /* What one connection has found of a server, the others know. */
 static void one_list(kmip_settings settings, const char *nobody) {
     char servers[200];
@@ -228,6 +250,7 @@ int main(int argc, char **argv) {
         ended(&settings);
     } else if (strcmp(mode, "lost") == 0) {
         lost(&settings);
+        lost_together(settings);
     } else {
         one_list(settings, mode);
     }

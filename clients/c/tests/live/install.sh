@@ -31,7 +31,7 @@ done
     'answer contents_len operation_answer operation_refusal operation_request refusal request value version' ]]
 verdict 'libmetsuwan.so has its nine calls, and no other names'
 [[ $(names_of libmetsuwan_tls.so | sed 's/kmip_//g') == \
-    'abandon batch_answer batch_array batch_call batch_count batch_free batch_new batch_operation batch_send batch_words bytes call call_array call_words close connect error_kind line open operation pem register_certificate register_private_key register_public_key register_secret server_of text was_sent' ]]
+    'abandon batch_answer batch_array batch_call batch_count batch_free batch_new batch_operation batch_send batch_words bytes call call_array call_words close connect count error_kind line list_bytes list_free list_new list_next list_text open operation pem pool_free pool_give_back pool_new pool_take register_certificate register_private_key register_public_key register_secret server_of text was_sent' ]]
 verdict 'libmetsuwan_tls.so has the calls of its header, and no other names'
 version=$(sed -n 's/^VERSION := //p' "$top/clients/c/Makefile")
 [[ $(pkg-config --modversion metsuwan metsuwan_tls | sort -u) == "$version" ]]
