@@ -659,12 +659,12 @@ kmip_makes() { # CALL WORD..
 
 # Writes the field of an answer, by the program KMIP_FIELD. What jq says may have a part of the answer.
 kmip_find() { # ANSWER
-    local out said status=0
+    local out told status=0
     [[ -e /proc/self/fd/1 ]] || return 2
     exec {out}>&1
-    said=$(jq -r "$KMIP_FIELD" 2>&1 >&"$out" < <(printf '%s\n' "$1")) || status=$?
+    told=$(jq -r "$KMIP_FIELD" 2>&1 >&"$out" < <(printf '%s\n' "$1")) || status=$?
     exec {out}>&-
-    [[ -z $said ]] || printf '%s\n' "$said" | kmip_shown >&2
+    [[ -z $told ]] || printf '%s\n' "$told" | kmip_shown >&2
     return "$status"
 }
 
@@ -673,11 +673,11 @@ kmip_find() { # ANSWER
 # said of an answer shows nothing of it, since that may be a key; but the identifiers of what a call has made are not lost. The
 # field is read before the call is made.
 kmip_field() { # FIELD CALL WORD..
-    local field=${1-} answer said status=0 KMIP_FIELD
+    local field=${1-} answer told status=0 KMIP_FIELD
     kmip_field_program "$field"
     kmip_has_jq || return
-    if ! said=$(jq "$KMIP_FIELD" 2>&1 >/dev/null </dev/null); then
-        printf '%s\n' "$said" | kmip_shown >&2
+    if ! told=$(jq "$KMIP_FIELD" 2>&1 >/dev/null </dev/null); then
+        printf '%s\n' "$told" | kmip_shown >&2
         kmip_fails GrammarError 'jq does not read the field, for the reason before; nothing was sent' >&2
         return 2
     fi

@@ -13,8 +13,9 @@
 #include <unistd.h>
 
 /* In place of the system's: a name is searched for until the search is given up, long after the
-   deadline, or it has two addresses, at the first of which nobody listens. */
+   deadline, or it has two addresses, the first at this port, where nobody listens. */
 static atomic_bool slow = true;
+static atomic_int first_port = 1;
 static sem_t given_up, over;
 
 static struct addrinfo *address_of(int port, struct addrinfo *next) {
@@ -41,7 +42,7 @@ int getaddrinfo(const char *host, const char *port, const struct addrinfo *hints
         sem_post(&over);
         return EAI_NONAME;
     }
-    *found = address_of(1, address_of(atoi(port), NULL));
+    *found = address_of(first_port, address_of(atoi(port), NULL));
     return 0;
 }
 
@@ -67,6 +68,35 @@ static void two_addresses(kmip_settings settings) {
                        "and its connection is ended in order");
         kmip_close(client);
     }
+}
+
+/* A port that takes no connection and refuses none: as many wait there as may. */
+static int dead_port(void) {
+    struct sockaddr_in at = {.sin_family = AF_INET, .sin_addr.s_addr = htonl(INADDR_LOOPBACK)};
+    socklen_t size = sizeof at;
+    int listener = socket(AF_INET, SOCK_STREAM, 0);
+    if (bind(listener, (struct sockaddr *)&at, size) != 0 || listen(listener, 0) != 0 ||
+        getsockname(listener, (struct sockaddr *)&at, &size) != 0)
+        exit(1);
+    for (int i = 0; i < 4; i++) {
+        int waits = socket(AF_INET, SOCK_STREAM | SOCK_NONBLOCK, 0);
+        if (connect(waits, (struct sockaddr *)&at, size) == 0) continue;
+    }
+    return ntohs(at.sin_port);
+}
+
+/* The addresses are tried side by side: a dead one takes no share of the deadline. */
+static void dead_address(kmip_settings settings) {
+    settings.user = "dead address";
+    settings.password = "";
+    settings.seconds = 200;
+    first_port = dead_port();
+    double from = seconds_now();
+    kmip_client *client = opened(&settings);
+    check(seconds_now() - from < 90, "a dead first address takes no half of the deadline");
+    check(kmip_call(client, "query", NULL) == KMIP_ANSWERED, "the second address is reached");
+    kmip_close(client);
+    first_port = 1;
 }
 
 static void refuses_settings(const kmip_settings *settings, const char *wanted) {
@@ -177,6 +207,7 @@ int main(int argc, char **argv) {
         continue;
     search_ends();
     two_addresses(settings);
+    dead_address(settings);
     closed_streams(&settings);
     return outcome();
 }

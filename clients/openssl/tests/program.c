@@ -6,6 +6,8 @@
                                    cut within a request, and signs once more
        program gone URI PROCESS    signs; has that process end, and does not sign again
        program moves URI PROCESS   signs; has that process end, and signs again in eight threads
+       program crowd URI           signs in 200 threads, in rounds: after each it writes `round N`, and
+                                   begins the next one by a line of standard input
        program rests URI           signs, and does so again half a second later
        program refused URI         twice has no key: the server refuses the certificate, and then it
                                    is left out
@@ -291,6 +293,40 @@ static void moves(pid_t server) {
     check("with the next server eight threads sign", ended && bad == 0);
 }
 
+/* crowd */
+
+enum { CROWD = 200, ROUNDS = 4 };
+static pthread_barrier_t ended, begins;
+
+/* On a busy machine a server that is just back has not shaken hands with all within its 5 seconds. */
+static void *one_of_crowd(void *given) {
+    for (int round = 0; round < ROUNDS; round++) {
+        for (int i = 0; i < 3; i++)
+            if (!signs("by a crowd") && !says("no answer within 5 seconds")) bad++;
+        pthread_barrier_wait(&ended);
+        pthread_barrier_wait(&begins);
+    }
+    return given;
+}
+
+static void crowd(void) {
+    static pthread_t threads[CROWD];
+    bool begun = pthread_barrier_init(&ended, NULL, CROWD + 1) == 0 &&
+                 pthread_barrier_init(&begins, NULL, CROWD + 1) == 0;
+    for (size_t i = 0; i < CROWD; i++)
+        if (!begun || pthread_create(&threads[i], NULL, one_of_crowd, NULL)) exit(1);
+    for (int round = 0; round < ROUNDS; round++) {
+        pthread_barrier_wait(&ended);
+        printf("round %d\n", round);
+        fflush(stdout);
+        if (getchar() == EOF) exit(1);
+        pthread_barrier_wait(&begins);
+    }
+    for (size_t i = 0; i < CROWD; i++)
+        if (pthread_join(threads[i], NULL)) bad++;
+    check("200 threads sign while the servers die by turns", bad == 0);
+}
+
 static void rests(void) {
     check("a signature", signs("one"));
     rest();
@@ -359,6 +395,8 @@ int main(int argc, char **argv) {
         lost((pid_t)number);
     } else if (strcmp(what, "moves") == 0) {
         moves((pid_t)number);
+    } else if (strcmp(what, "crowd") == 0) {
+        crowd();
     } else if (strcmp(what, "rests") == 0) {
         rests();
     } else {

@@ -10,7 +10,8 @@ KEY is a private key in a PEM file. One of P-256 has the algorithm ECDSA, one of
     private      the Link is to the private key itself
     lies         whatever object is got is the private key, though Object Type says otherwise
     hangs        to Sign it says nothing
-It writes `ready PORT` when it listens, and then the name of the operation of each request.
+It writes `ready PORT` when it listens, at the port SIGNER_PORT where that is set, and then the name of the operation of each
+request.
 """
 import functools
 import os
@@ -126,7 +127,7 @@ def main():
     context.load_cert_chain(certs + '/server.pem', certs + '/server.key')
     context.load_verify_locations(certs + '/ca.pem')
     context.verify_mode = ssl.CERT_REQUIRED
-    with socket.create_server(('127.0.0.1', 0)) as listener:
+    with socket.create_server(('127.0.0.1', int(os.environ.get('SIGNER_PORT', '0'))), backlog=300) as listener:
         print('ready', listener.getsockname()[1], flush=True)
         while True:
             plain, _ = listener.accept()
