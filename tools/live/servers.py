@@ -6,6 +6,7 @@
 Each request that it has read is a line `PORT OPERATION` in the file READ. It writes `ready` once it listens at 127.0.0.1.
 
 good         always
+named        always, and each line has the identifier of the request too; SIGUSR1 kills it, and it comes back at once
 dies         ends as a process once it has read a request
 hangs        reads, and says nothing
 slow         answers after 3 seconds
@@ -14,7 +15,9 @@ refuses      wants a client of another authority
 once         answers one request of each connection, and then ends it
 foreign      has a certificate of another authority
 pending      says that each request is pending, but one to poll"""
+import ctypes
 import os
+import signal
 import socket
 import ssl
 import sys
@@ -22,7 +25,7 @@ import threading
 import time
 
 import fakes
-from ttlv import PENDING, id_of, identified, message_of, operation_of, response
+from ttlv import PENDING, id_of, identified, message_of, operation_of, response, value_of
 
 POLL = 0x1A
 FOR_EVER = 1 << 30      # seconds
@@ -41,8 +44,9 @@ class Server:
 
     def answer(self, wire, request):
         """Answers a request, and says whether the connection goes on."""
+        named = b' ' + value_of(request, '420094', 7) if self.mode == 'named' else b''
         with open(self.read, 'ab', buffering=0) as file:
-            file.write(b'%d %d\n' % (self.port, operation_of(request)))
+            file.write(b'%d %d%s\n' % (self.port, operation_of(request), named))
         if self.mode == 'dies':
             os._exit(0)     # with all connections, and none of them in order
         if self.mode == 'hangs':
@@ -69,13 +73,30 @@ class Server:
             pass            # the client has ended the connection, or was refused
 
     def run(self):
-        listener = socket.create_server(('127.0.0.1', self.port), backlog=200)
+        listener = socket.create_server(('127.0.0.1', self.port), backlog=500)
         print('ready', flush=True)
         while True:
             threading.Thread(target=self.serve, args=(listener.accept()[0],), daemon=True).start()
 
 
+def die_and_come_back(server):
+    """Serves in a process that SIGUSR1 kills; then there is another one, a moment later."""
+    signal.pthread_sigmask(signal.SIG_BLOCK, [signal.SIGUSR1])
+    while True:
+        child = os.fork()
+        if child == 0:
+            ctypes.CDLL(None).prctl(1, signal.SIGKILL)      # it ends with its parent
+            server.run()
+        signal.sigwait([signal.SIGUSR1])
+        os.kill(child, signal.SIGKILL)
+        os.waitpid(child, 0)
+        time.sleep(0.3)
+
+
 if __name__ == '__main__':
     if len(sys.argv) not in (5, 6):
         sys.exit('usage: servers.py MODE PORT CERTS READ [1.2|1.3]')
-    Server(*sys.argv[1:]).run()
+    made = Server(*sys.argv[1:])
+    if made.mode == 'named':
+        die_and_come_back(made)
+    made.run()
