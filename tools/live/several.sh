@@ -32,22 +32,22 @@ up "$a" good && up "$b" good
 } | calls "$both"
 says "$what: the first" "^sign 0 .* at localhost:$a"
 says "$what: then the other" "^activate 0 .* at localhost:$b"
-reads "$b" $activate 1
-reads "$b" $sign 1
+reads "$b" "$activate" 1
+reads "$b" "$sign" 1
 
 begin 'one dies once it has read'
 up "$a" dies && up "$b" good
 calls "$both" <<<$'sign 4 00'
 says "$what: what changes nothing is made again" "^sign 0 .*at localhost:$b"
-reads "$a" $sign 1
-reads "$b" $sign 1
+reads "$a" "$sign" 1
+reads "$b" "$sign" 1
 begin 'one dies once it has read a change'
 up "$a" dies && up "$b" good
 calls "$both" <<<$'activate 4\nactivate 5'
 says "$what: it is lost" "^activate 3 sent=1 .*localhost:$a: .*; it may have been done there, and was sent to no other server"
 says "$what: the next call goes on" "^activate 0 .* at localhost:$b"
-reads "$a" $activate 1
-reads "$b" $activate 1
+reads "$a" "$activate" 1
+reads "$b" "$activate" 1
 
 # (half of the deadline is to be enough for the second)
 hanging=seconds=$slack
@@ -56,14 +56,14 @@ up "$a" hangs && up "$b" good
 calls "$both" "$hanging" <<<$'sign 4 00\nsign 4 00'
 says "$what: the other answers" "^sign 0 .* at localhost:$b"
 says "$what: the log" "log .*localhost:$a: .*no answer within [0-9.]+ seconds: the call is made again"
-reads "$a" $sign 1
-reads "$b" $sign 2
+reads "$a" "$sign" 1
+reads "$b" "$sign" 2
 begin 'one hangs once it has read a change'
 up "$a" hangs && up "$b" good
 calls "$both" "$hanging" <<<$'activate 4\nactivate 5'
 says "$what: it is lost at the deadline" "^activate 3 sent=1 .*no answer within $slack seconds; it may have been done"
 says "$what: the next call goes on" "^activate 0 .* at localhost:$b"
-reads "$b" $activate 1
+reads "$b" "$activate" 1
 begin 'one says no word of TLS'
 up "$a" hangs_tls && up "$b" good
 calls "$both" "$hanging" <<<'activate 4'
@@ -78,11 +78,11 @@ verdict "$what: it is one for all"
 
 for tls in 1.2 1.3; do
     begin "the certificate is refused, TLS $tls"
-    up "$a" refuses $tls && up "$b" good
+    up "$a" refuses "$tls" && up "$b" good
     calls "$both" <<<$'activate 4\nsign 4 00'
     says "$what: by its name" "log .*localhost:$a: the server refused the certificate: unknown CA"
     says "$what: the other takes a change" "^activate 0 .* at localhost:$b"
-    reads "$b" $activate 1
+    reads "$b" "$activate" 1
 done
 begin 'one server refuses the certificate'
 up "$a" refuses
@@ -107,24 +107,24 @@ up "$a" foreign && up "$b" good
 calls "$both" <<<'activate 4'
 says "$what: the other is taken" "^open localhost:$b"
 says "$what: why" "log .*localhost:$a: .*certificate verify failed"
-reads "$a" $activate 0
+reads "$a" "$activate" 0
 begin 'connections end while they are idle'
 up "$a" once && up "$b" good
 calls "$both" <<<$'activate 4\nsleep 0.3\nactivate 4\nsleep 0.3\nsign 4 00'
 says_not "$what: nothing is left out" 'left out'
-reads "$a" $activate 2
-reads "$a" $sign 1
+reads "$a" "$activate" 2
+reads "$a" "$sign" 1
 begin 'connections are old'
 up "$a" good && up "$b" good
 calls "$both" max_age=0.2 order=turns <<<$'sign 4 00\nsleep 0.4\nsign 4 00\nsleep 0.4\nsign 4 00\nsleep 0.4\nsign 4 00'
 says "$what: another is opened" 'log .*: the connection was old, and another one is opened'
-reads "$a" $sign 2
-reads "$b" $sign 2
+reads "$a" "$sign" 2
+reads "$b" "$sign" 2
 begin 'a call is pending'
 up "$a" pending && up "$b" good
 calls "$both" <<<$'activate 4\npoll 0102\nsign 4 00'
-reads "$a" $poll 1
-reads "$b" $poll 0
+reads "$a" "$poll" 1
+reads "$b" "$poll" 0
 
 begin 'another name'
 up "$a" good

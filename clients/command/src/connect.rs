@@ -105,8 +105,9 @@ fn order(settings: &Settings) -> Result<Order, Failure> {
 }
 
 fn connector(settings: &Settings) -> Result<TlsConnector, Failure> {
+    let server = needed(settings, "server")?;
     let (certificate, key) = (needed(settings, "certificate")?, needed(settings, "key")?);
-    let mut made = TlsConnector::of_servers([needed(settings, "server")?])
+    let mut made = TlsConnector::of_servers([server])
         .with_order(order(settings)?)
         .with_certificate(certificate, key)
         .with_authority(needed(settings, "authority")?);
