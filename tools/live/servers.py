@@ -7,6 +7,7 @@ Each request that it has read is a line `PORT OPERATION` in the file READ. It wr
 
 good         always
 names        always, and the line has the identifier of the request, too
+named        the same; SIGUSR1 kills it, and it comes back at once
 dies         ends as a process once it has read a request
 hangs        reads, and says nothing
 slow         answers after 3 seconds
@@ -15,7 +16,9 @@ refuses      wants a client of another authority
 once         answers one request of each connection, and then ends it
 foreign      has a certificate of another authority
 pending      says that each request is pending, but one to poll"""
+import ctypes
 import os
+import signal
 import socket
 import ssl
 import sys
@@ -42,8 +45,8 @@ class Server:
 
     def answer(self, wire, request):
         """Answers a request, and says whether the connection goes on."""
+        named = b' ' + value_of(request, '420094', 7) if self.mode in ('names', 'named') else b''
         with open(self.read, 'ab', buffering=0) as file:
-            named = b' ' + value_of(request, '420094', 7) if self.mode == 'names' else b''
             file.write(b'%d %d%s\n' % (self.port, operation_of(request), named))
         if self.mode == 'dies':
             os._exit(0)     # with all connections, and none of them in order
@@ -71,13 +74,30 @@ class Server:
             pass            # the client has ended the connection, or was refused
 
     def run(self):
-        listener = socket.create_server(('127.0.0.1', self.port), backlog=200)
+        listener = socket.create_server(('127.0.0.1', self.port), backlog=500)
         print('ready', flush=True)
         while True:
             threading.Thread(target=self.serve, args=(listener.accept()[0],), daemon=True).start()
 
 
+def die_and_come_back(server):
+    """Serves in a process that SIGUSR1 kills; then there is another one, a moment later."""
+    signal.pthread_sigmask(signal.SIG_BLOCK, [signal.SIGUSR1])
+    while True:
+        child = os.fork()
+        if child == 0:
+            ctypes.CDLL(None).prctl(1, signal.SIGKILL)      # it ends with its parent
+            server.run()
+        signal.sigwait([signal.SIGUSR1])
+        os.kill(child, signal.SIGKILL)
+        os.waitpid(child, 0)
+        time.sleep(0.3)
+
+
 if __name__ == '__main__':
     if len(sys.argv) not in (5, 6):
         sys.exit('usage: servers.py MODE PORT CERTS READ [1.2|1.3]')
-    Server(*sys.argv[1:]).run()
+    made = Server(*sys.argv[1:])
+    if made.mode == 'named':
+        die_and_come_back(made)
+    made.run()

@@ -2,7 +2,7 @@
 use crate::failure::{setting, Failure};
 use crate::record::Record;
 use crate::settings::{secret_of, Settings};
-use metsuwan::{ClientBuilder, TlsClient, TlsConnector, TlsStream};
+use metsuwan::{Order, TlsClient, TlsConnector};
 use std::time::Duration;
 use zeroize::Zeroizing;
 
@@ -17,7 +17,6 @@ pub struct How {
 /// A client, and what it records.
 pub struct Connected {
     pub client: TlsClient,
-    pub server: String,
     record: Option<Record>,
 }
 
@@ -26,20 +25,6 @@ impl Connected {
     pub fn check_record(&self) -> Result<(), Failure> {
         self.record.as_ref().map_or(Ok(()), Record::check)
     }
-}
-
-/// HOST, HOST:PORT or [ADDRESS]:PORT.
-pub fn server_of(text: &str) -> Option<(&str, u16)> {
-    let (host, rest) = match text.strip_prefix('[') {
-        Some(inner) => inner.split_once(']')?,
-        None => text.find(':').map_or((text, ""), |at| text.split_at(at)),
-    };
-    let port = match rest.strip_prefix(':') {
-        Some(port) if port.bytes().all(|byte| byte.is_ascii_digit()) => port.parse().ok()?,
-        None if rest.is_empty() => 5696,
-        _ => return None,
-    };
-    (!host.is_empty() && port != 0).then_some((host, port))
 }
 
 fn needed<'a>(settings: &'a Settings, name: &str) -> Result<&'a str, Failure> {
@@ -105,65 +90,48 @@ fn credential(settings: &Settings) -> Result<Credential, Failure> {
     }
 }
 
-/// The servers of the setting, each as it is written.
-pub fn servers(settings: &Settings) -> Result<Vec<(String, u16)>, Failure> {
-    let all = needed(settings, "server")?.split(',').map(str::trim);
-    all.map(|one| {
-        let found = server_of(one).map(|(host, port)| (host.to_string(), port));
-        let text = "server is no HOST, HOST:PORT or [ADDRESS]:PORT, nor several with commas";
-        found.ok_or_else(|| setting(format!("{text}: {one}")))
-    })
-    .collect()
+/// How long, in seconds, where that is set.
+fn seconds(settings: &Settings, name: &str) -> Result<Option<Duration>, Failure> {
+    let found = number(settings, name, "0 to 86400", |it: &f64| (0.0..=86400.0).contains(it))?;
+    Ok(found.map(Duration::from_secs_f64))
 }
 
-fn connectors(settings: &Settings) -> Result<Vec<(String, TlsConnector)>, Failure> {
-    let servers = servers(settings)?;
-    let (certificate, key) = (needed(settings, "certificate")?, needed(settings, "key")?);
-    let authority = needed(settings, "authority")?;
-    let seconds =
-        number(settings, "seconds", "0 to 86400", |it: &f64| (0.0..=86400.0).contains(it))?;
-    let passphrase = secret(settings, "passphrase", is_encrypted(key))?;
-    Ok(servers
-        .into_iter()
-        .map(|(host, port)| {
-            let shown = format!("{host}:{port}");
-            let mut made = TlsConnector::new(host, port)
-                .with_certificate(certificate, key)
-                .with_authority(authority);
-            if let Some(seconds) = seconds {
-                made = made.with_timeout(Some(Duration::from_secs_f64(seconds)));
-            }
-            if let Some(passphrase) = &passphrase {
-                made = made.with_passphrase(passphrase.as_str());
-            }
-            (shown, made)
-        })
-        .collect())
-}
-
-/// The first of the servers that is reached.
-fn first(all: &[(String, TlsConnector)]) -> Result<(String, ClientBuilder<TlsStream>), Failure> {
-    let mut last = setting("server is empty");
-    for (server, connector) in all {
-        match connector.connect() {
-            Ok(builder) => return Ok((server.clone(), builder)),
-            Err(error) => {
-                last = Failure::from(error);
-                if all.len() > 1 {
-                    last.text = format!("{server}: {}", last.text);
-                }
-            }
-        }
+fn order(settings: &Settings) -> Result<Order, Failure> {
+    match settings.get("order") {
+        None | Some("first") => Ok(Order::First),
+        Some("turns") => Ok(Order::Turns),
+        Some(other) => Err(setting(format!("order is neither first nor turns: {other}"))),
     }
-    Err(last)
+}
+
+fn connector(settings: &Settings) -> Result<TlsConnector, Failure> {
+    let server = needed(settings, "server")?;
+    let (certificate, key) = (needed(settings, "certificate")?, needed(settings, "key")?);
+    let mut made = TlsConnector::of_servers([server])
+        .with_order(order(settings)?)
+        .with_certificate(certificate, key)
+        .with_authority(needed(settings, "authority")?);
+    if let Some(name) = settings.get("server_name") {
+        made = made.with_server_name(name);
+    }
+    if let Some(age) = seconds(settings, "max_age")?.filter(|age| !age.is_zero()) {
+        made = made.with_max_age(age);
+    }
+    if let Some(most) = seconds(settings, "seconds")? {
+        made = made.with_timeout(Some(most));
+    }
+    if let Some(passphrase) = secret(settings, "passphrase", is_encrypted(key))? {
+        made = made.with_passphrase(passphrase.as_str());
+    }
+    Ok(made)
 }
 
 pub fn connect(settings: &Settings, how: &How) -> Result<Connected, Failure> {
-    let connectors = connectors(settings)?;
+    let connector = connector(settings)?;
     let credential = credential(settings)?;
     let limit = number(settings, "limit", "0 to 4294967295", |_: &u32| true)?.or(how.limit);
     let record = settings.get("record").map(Record::open).transpose()?;
-    let (server, mut builder) = first(&connectors)?;
+    let mut builder = connector.connect()?;
     if let Some((user, password)) = &credential {
         builder = builder.with_credentials(user.as_str(), password.as_str());
     }
@@ -184,35 +152,5 @@ pub fn connect(settings: &Settings, how: &How) -> Result<Connected, Failure> {
             }
         });
     }
-    Ok(Connected { client: builder.build(), server, record })
-}
-
-#[cfg(test)]
-mod tests {
-    use super::server_of;
-
-    #[test]
-    fn servers_are_hosts_with_ports() {
-        let rows = [
-            ("kms", Some(("kms", 5696))),
-            ("kms:1", Some(("kms", 1))),
-            ("kms:65535", Some(("kms", 65535))),
-            ("[::1]:443", Some(("::1", 443))),
-            ("[::1]", Some(("::1", 5696))),
-            ("10.0.0.1:5", Some(("10.0.0.1", 5))),
-            ("kms:0", None),
-            ("kms:65536", None),
-            ("kms:+5", None),
-            ("kms:", None),
-            ("kms:5:6", None),
-            ("::1", None),
-            ("[::1", None),
-            ("[::1]5", None),
-            (":5", None),
-            ("", None),
-        ];
-        for (text, wanted) in rows {
-            assert_eq!(server_of(text), wanted, "{text}");
-        }
-    }
+    Ok(Connected { client: builder.build(), record })
 }

@@ -1,4 +1,5 @@
 //! Why there is no answer, and the status.
+use metsuwan::Json;
 use std::io::{IsTerminal, Write};
 
 /// What is said, and the status that the program ends with.
@@ -18,7 +19,11 @@ impl Failure {
 
     /// A line of JSON.
     pub fn json(&self) -> String {
-        let own = || serde_json::json!({"error": self.kind, "text": self.text}).to_string();
+        let member = |name: &str, value: &str| (name.into(), Json::text(value));
+        let own = || {
+            let members = vec![member("error", &self.kind), member("text", &self.text)];
+            Json::Object(members).to_string()
+        };
         self.line.clone().unwrap_or_else(own)
     }
 
@@ -139,10 +144,17 @@ fn hint(text: &str) -> &'static str {
     HINTS.iter().find(|(part, _)| text.contains(part)).map_or("", |(_, hint)| hint)
 }
 
+/// Whether a terminal would act on this sign, or not show it, or turn the direction of what follows:
+/// as the client's own errors have it.
+fn is_odd(it: char) -> bool {
+    it.is_control()
+        || matches!(it, '\u{AD}' | '\u{61C}' | '\u{180E}' | '\u{FEFF}' | '\u{FFF9}'..='\u{FFFB}')
+        || matches!(it, '\u{200B}'..='\u{200F}' | '\u{2028}'..='\u{202E}')
+        || matches!(it, '\u{2060}'..='\u{206F}' | '\u{E0000}'..='\u{E007F}')
+}
+
 /// A text with nothing in it that moves a terminal's cursor or turns its direction.
 pub fn plain(text: &str) -> String {
-    let turns = |it: char| matches!(it, '\u{202A}'..='\u{202E}' | '\u{2066}'..='\u{2069}');
-    let is_odd = |it: char| it.is_control() || turns(it) || matches!(it, '\u{200E}' | '\u{200F}');
     let mut made = String::with_capacity(text.len());
     for it in text.chars() {
         if is_odd(it) {
@@ -165,6 +177,7 @@ mod tests {
             ("\u{1b}[2J", "\\u{1b}[2J"),
             ("a\nb\r", "a\\nb\\r"),
             ("\u{202E}x\u{200F}", "\\u{202e}x\\u{200f}"),
+            ("\u{9B}31m\u{2028}\u{AD}", "\\u{9b}31m\\u{2028}\\u{ad}"),
             ("schl\u{fc}ssel", "schl\u{fc}ssel"),
         ];
         for (text, wanted) in rows {

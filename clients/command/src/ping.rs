@@ -91,7 +91,7 @@ pub fn ping(settings: &Settings, trace: bool) -> Result<u8, Failure> {
     let begun = Instant::now();
     let of_server = rows_of_server(&connected)?;
     let took = begun.elapsed().as_secs_f64() * 1e3 / 2.0;
-    let mut rows = vec![("server".to_string(), connected.server.clone())];
+    let mut rows = vec![("server".to_string(), connected.client.server())];
     connected.check_record()?;
     if let Some(stream) = connected.client.into_inner() {
         rows.extend(rows_of_tls(stream.ssl()));

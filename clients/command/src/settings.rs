@@ -10,8 +10,11 @@ use zeroize::Zeroizing;
 
 /// Those of this program, of the provider for OpenSSL and of the module of PKCS #11: one file
 /// serves them all, and each takes what it knows.
-pub const NAMES: [&str; 20] = [
+pub const NAMES: [&str; 23] = [
     "server",
+    "order",
+    "server_name",
+    "max_age",
     "certificate",
     "key",
     "authority",

@@ -177,6 +177,7 @@ class Carrier(OfOneProcess):
         if wire is not None and self._reconnects and wire.is_older(self._max_age):
             self._end(True)
             self._wire = self._opened()
+            LOG.info('%s: the connection was old, and another one is opened', self._server)
         elif wire is None:
             if not self._reconnects:
                 raise RequestWriteError('the connection is closed; nothing was sent')

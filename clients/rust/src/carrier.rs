@@ -120,6 +120,11 @@ impl<T> Carrier<T> {
         self.stream.is_some() || self.open.is_some()
     }
 
+    /// The server of the stream, or the one that was tried last.
+    pub(crate) fn server(&self) -> &str {
+        &self.servers.all[self.at].text
+    }
+
     /// The servers that all clients of a pool have.
     pub(crate) fn servers(&self) -> &Arc<Servers> {
         &self.servers
@@ -169,7 +174,8 @@ impl<T> Carrier<T> {
     }
 
     fn tell(&mut self, call: Begun<'_>, kind: EventKind, error: Option<&Error>, text: &str) {
-        self.log.report(call, kind, error, &self.servers.all[self.at].text, text);
+        let server = &self.servers.all[self.at].text;
+        self.log.report(call, kind, error, server, text);
     }
 
     /// Tells the log that a call of this name has ended, which sent and read so many bytes.

@@ -388,6 +388,12 @@ impl<T> Client<T> {
         self.own_carrier().is_ok_and(|carrier| carrier.is_open())
     }
 
+    /// The server of the connection, or the one that was tried last, as `localhost:5696`. That of a
+    /// stream of your own is empty; so it is in the child of a fork.
+    pub fn server(&self) -> String {
+        self.own_carrier().map_or(String::new(), |carrier| carrier.server().into())
+    }
+
     /// Whether of several that are free the one is to be taken that was idle longest.
     pub(crate) fn goes_by_turns(&self) -> bool {
         self.servers.go_by_turns()

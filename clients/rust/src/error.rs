@@ -130,7 +130,7 @@ impl Display for Details {
 }
 
 /// Whether a terminal would act on this sign, or not show it, or turn the direction of what follows.
-fn acts_on_a_terminal(sign: char) -> bool {
+pub(crate) fn acts_on_a_terminal(sign: char) -> bool {
     sign.is_control()
         || matches!(sign, '\u{AD}' | '\u{61C}' | '\u{180E}' | '\u{FEFF}' | '\u{FFF9}'..='\u{FFFB}')
         || matches!(sign, '\u{200B}'..='\u{200F}' | '\u{2028}'..='\u{202E}')

@@ -1,4 +1,5 @@
 //! JSON (RFC 8259), as answers have it.
+use crate::error::acts_on_a_terminal;
 use std::fmt::{self, Debug, Display, Formatter, Write};
 use std::ops::Deref;
 use std::sync::Arc;
@@ -217,12 +218,16 @@ impl Display for Json {
     }
 }
 
+/// A text, in which each sign is escaped that a terminal would act on: a server may have written it.
 fn write_text(f: &mut Formatter<'_>, text: &str) -> fmt::Result {
     f.write_char('"')?;
     for character in text.chars() {
         match character {
             '"' | '\\' => write!(f, "\\{character}")?,
-            '\0'..='\x1F' | '\x7F' => write!(f, "\\u{:04X}", u32::from(character))?,
+            _ if acts_on_a_terminal(character) => {
+                let units = character.encode_utf16(&mut [0; 2]).to_vec();
+                units.iter().try_for_each(|unit| write!(f, "\\u{unit:04X}"))?;
+            }
             _ => f.write_char(character)?,
         }
     }
@@ -429,6 +434,15 @@ mod tests {
         assert_eq!(Json::parse("\"schlüssel\""), text("schlüssel"));
         assert_eq!(Json::parse(r#""a\"b\\c\/\b\f\n\r\t""#), text("a\"b\\c/\u{8}\u{C}\n\r\t"));
         assert_eq!(Json::parse(r#""\u001F\u00e9\uD83D\uDE00""#), text("\u{1F}é\u{1F600}"));
+    }
+
+    #[test]
+    fn no_sign_of_a_text_acts_on_a_terminal() {
+        let odd = "caf\u{E9} \u{1B}[2J \u{9B}31m \u{202E}gnp.exe \u{7F} \u{E0001}";
+        let shown = Json::text(odd).to_string();
+        let wanted = r#""caf# \u001B[2J \u009B31m \u202Egnp.exe \u007F \uDB40\uDC01""#;
+        assert_eq!(shown, wanted.replace('#', "\u{E9}"));
+        assert_eq!(Json::parse(&shown), text(odd));
     }
 
     #[test]

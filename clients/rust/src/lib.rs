@@ -91,6 +91,7 @@ pub use payload::{
     QueryResponsePayload, RNGRetrieveResponsePayload, SignResponsePayload,
 };
 pub use pool::{Pool, PooledClient};
+pub use record::RecordFile;
 #[cfg(feature = "openssl")]
 pub use servers::Order;
 #[cfg(feature = "openssl")]

@@ -34,14 +34,43 @@ pub(crate) fn line_of(request: &[u8], response: &[u8]) -> String {
     format!("{word} {} {}\n", hex_of(request), hex_of(response))
 }
 
-/// What adds each entry at the end of a file, to which other processes and threads add theirs.
+/// A file of a record, for a program whose listener
+/// ([`with_record`](crate::ClientBuilder::with_record)) does more than to write;
+/// [`with_record_file`](crate::ClientBuilder::with_record_file) is over it. Other processes and
+/// threads may add their lines to it at the same time.
+#[derive(Clone, Debug)]
+pub struct RecordFile {
+    path: PathBuf,
+}
+
+impl RecordFile {
+    /// The file of this path, which is made where it is not there, for its owner alone.
+    ///
+    /// # Errors
+    /// It cannot be opened
+    pub fn open(path: impl AsRef<Path>) -> io::Result<RecordFile> {
+        // (where the program goes to another folder)
+        let path = std::env::current_dir()?.join(path);
+        close_file(open(&path)?)?;
+        Ok(RecordFile { path })
+    }
+
+    /// Adds a line at its end, whole or not at all. The file is locked for that one write alone.
+    ///
+    /// # Errors
+    /// It cannot be opened or written, or it is locked for five seconds
+    pub fn add(&self, line: &str) -> io::Result<()> {
+        add(&self.path, line.as_bytes())
+    }
+}
+
+/// What adds each entry at the end of a file.
 ///
 /// # Errors
 /// The file cannot be opened
 pub(crate) fn to_file(path: &Path) -> io::Result<Record> {
-    let path = std::env::current_dir()?.join(path); // (where the program goes to another folder)
-    close_file(open(&path)?)?;
-    Ok(Box::new(move |line| add(&path, line.as_bytes())))
+    let file = RecordFile::open(path)?;
+    Ok(Box::new(move |line| file.add(line)))
 }
 
 fn open(path: &PathBuf) -> io::Result<File> {

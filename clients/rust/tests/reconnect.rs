@@ -244,7 +244,8 @@ fn a_call_that_panics_is_followed_by_another_stream() {
 fn the_log_tells_of_each_call_and_shows_no_value() {
     let no = ttlv::failure(ACTIVATE, 1, "no such key: the key");
     let signed = response(SIGN, &[identifier("the key"), bytes(0x4200C3, b"signature")]);
-    let does = [Does::Answer(signed), Does::Answer(no), answer(ENCRYPT), answer(ENCRYPT)];
+    let sealed = Does::Answer(response(ENCRYPT, &[identifier("the key")]));
+    let does = [Does::Answer(signed), Does::Answer(no), sealed.clone(), sealed];
     let (client, _, seen) = client(&[&does]);
     client.sign("the key", b"the data").unwrap();
     client.activate_key("the key").unwrap_err();
