@@ -3,7 +3,7 @@
 # certificate, or that encrypts nothing.
 command -v openssl >/dev/null || return
 weak() { # openssl.cnf with the provider, and with ciphers that are none
-    configure
+    configure "seconds = $((3 * slack))"
     sed -i 's/^\[init\]/&\nssl_conf = ssl/' "$OPENSSL_CONF"
     printf '%s\n' '[ssl]' 'system_default = weak' '[weak]' 'CipherString = ALL:eNULL:aNULL:@SECLEVEL=0' \
         'MinProtocol = TLSv1' >>"$OPENSSL_CONF"
