@@ -45,7 +45,7 @@
 #   KMIP_RECORD      a file that each call and its response are added to
 #   KMIP_CALL        the program, if it is not kmip_call on the path: its path, or words
 #
-# It needs bash 5.0, openssl 3.0, flock (util-linux), timeout, mkfifo and od (coreutils), /proc, and jq for kmip_field,
+# It needs bash 5.0, openssl 3.0, flock (util-linux), timeout, mkfifo and od (coreutils), sed, /proc, and jq for kmip_field,
 # `kmip pem` and `kmip register-private` and its kin.
 
 if ((BASH_VERSINFO[0] < 5)); then
@@ -67,10 +67,11 @@ fi
 #   KMIP_LOG               a file with no name, in which openssl says what is wrong
 
 # Leaves in KMIP_ESCAPES what sed does with a text so that a terminal shows it all: what it would act on, as ESC, C1's controls
-# and U+202E, which turns the direction, becomes JSON's escape. Bytes stand for characters, in C's locale.
+# and U+202E, which turns the direction, becomes JSON's escape. Bytes stand for characters, in C's locale. KMIP_ODD has the
+# same characters, and KMIP_ODD_AS their escapes.
 kmip_make_escapes() {
-    local range code bytes made
-    KMIP_ESCAPES='/[\x01-\x1F\x7F\xC2\xD8\xE1\xE2\xEF]/!b'
+    local range code bytes odd made
+    KMIP_ESCAPES='/[\x01-\x1F\x7F\xC2\xD8\xE1\xE2\xEF]/!b' KMIP_ODD=() KMIP_ODD_AS=()
     for range in 1-31 127-159 173-173 1564-1564 6158-6158 8203-8207 8232-8238 8288-8303 65279-65279 65529-65531; do
         for ((code = ${range%-*}; code <= ${range#*-}; code++)); do
             if ((code < 128)); then
@@ -80,8 +81,10 @@ kmip_make_escapes() {
             else
                 printf -v bytes '\\x%02X\\x%02X\\x%02X' $((224 | code >> 12)) $((128 | code >> 6 & 63)) $((128 | code & 63))
             fi
-            printf -v made '\ns/%s/\\\\u%04X/g' "$bytes" "$code"
-            KMIP_ESCAPES+=$made
+            printf -v odd %b "$bytes"
+            printf -v made '\\u%04X' "$code"
+            KMIP_ODD+=("$odd") KMIP_ODD_AS+=("$made")
+            KMIP_ESCAPES+=$'\n'"s/$bytes/\\$made/g"
         done
     done
 }
@@ -94,11 +97,11 @@ kmip_shown() {
 
 # Says a line on standard error, with these escapes.
 kmip_says() { # FORMAT TEXT..
-    local text
+    local LC_ALL=C text i
     # shellcheck disable=SC2059 # it is a format
     printf -v text "$@"
-    # (as one record, so that a line's end within it is escaped)
-    printf '%s\n' "$(printf %s "$text" | LC_ALL=C sed -z "$KMIP_ESCAPES")" >&2
+    for i in "${!KMIP_ODD[@]}"; do text=${text//"${KMIP_ODD[i]}"/"${KMIP_ODD_AS[i]}"}; done
+    printf '%s\n' "$text" >&2
 }
 
 # Leaves in KMIP_WORD the word that stands for a text in a call: what is special is written as % and two hex digits.

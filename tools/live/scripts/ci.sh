@@ -15,7 +15,8 @@ run_is() { # WHAT STATUS PROOFS COUNTS CLIENTS
 }
 run_is 'all passes' 0 0 0 0
 says 'the proofs are those of the clone' "^ci in $work/a clone$"
-[[ $(tail -1 "$said") =~ ^'the clients '(--client (shell|c|python|rust) ){4}(--least (shell|c|python|rust)=[1-9][0-9]+ ?){4}$ ]]
+who='(shell|c|python|rust|command)'
+[[ $(tail -1 "$said") =~ ^'the clients '(--client $who ){5}(--least $who=[1-9][0-9]+ ){5}'--seconds '[1-9][0-9]+$ ]]
 verdict 'the clients come after them, each with a least number of checks'
 run_is 'proofs that fail end it' 7 7 0 0
 says_not 'and the clients are not tried' 'the clients'

@@ -64,8 +64,8 @@ with open(sys.argv[2]) as lines:
         what, name, status, sent, text = line.rstrip('\n').split(' ', 4)
         kind = 'answered' if status == '0' else 'lost' if sent == '1' else 'not sent'
         told[what, kind] += 1
-        # On a busy machine a server that is just back has not shaken hands with 200 within its 5 seconds.
-        if kind == 'not sent' and 'no answer within 5 seconds; ' in text and read[name] == 0:
+        # On a busy machine a server that is just back may have no connection within its 5 seconds.
+        if kind == 'not sent' and 'within 5 seconds; ' in text and read[name] == 0:
             continue
         if what == 'change':
             may = {'answered': (1,), 'lost': (0, 1)}.get(kind, ())

@@ -14,7 +14,7 @@ lines() { # HEADING: the lines of code below it
 own_port=$(free_port)
 {
     echo "cd '$folder' && set -e"
-    echo "trap 'kill \"\$(cat nginx.pid)\"; tools/test_server.sh stop' EXIT"
+    echo "trap '[[ ! -e nginx.pid ]] || kill \"\$(cat nginx.pid)\"; tools/test_server.sh stop' EXIT"
     lines 'From nothing to a certificate'
     echo 'openssl verify -CAfile authority.pem leaf.pem && openssl req -in authority.csr -verify -noout'
     echo 'openssl x509 -in leaf.pem -noout -ext subjectAltName'

@@ -107,7 +107,7 @@ verdict 'all of 30000 bytes of a payload arrive'
 # What the tables of get and attributes have no words for is answered as a tree: by one request, and without jq.
 fake transparent
 script_is 'an HMAC key, and attributes of no table' 0 'open; mkdir tools; export KMIP_RECORD=$work/kept
-    for tool in bash flock timeout openssl; do ln -s "$(type -P "$tool")" tools; done
+    for tool in bash flock timeout sed openssl; do ln -s "$(type -P "$tool")" tools; done
     PATH=$work/tools; kmip get HMAC && kmip attributes k && kmip query; status=$?; kmip_close; exit $status'
 (($(grep -c '^{"answer":{"tag":"ResponsePayload",' "$said") == 2))
 verdict 'both are answered as trees'
