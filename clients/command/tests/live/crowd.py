@@ -9,6 +9,7 @@ import sys
 import threading
 
 AT_ONCE = 25
+WRITES = threading.Lock()
 
 
 def line_of(name):
@@ -37,7 +38,9 @@ def work(kmip, at, calls, room):
     with room:
         while len(told) < len(names):
             told += run(kmip, names[len(told):])
-    print("\n".join(told), flush=True)
+    with WRITES:
+        sys.stdout.write("".join(f"{line}\n" for line in told))
+        sys.stdout.flush()
 
 
 def main():

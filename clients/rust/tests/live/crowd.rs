@@ -17,9 +17,20 @@ fn call(client: &TlsClient, name: &str) -> Result<bool> {
     client.activate_key(name).map(|()| true)
 }
 
+/// A client, once a server is there: both may be dead at once.
+fn opened(server: &TlsConnector) -> TlsClient {
+    for _ in 0..100 {
+        if let Ok(builder) = server.connect() {
+            return builder.build();
+        }
+        thread::sleep(Duration::from_millis(200));
+    }
+    panic!("no server is there");
+}
+
 fn work(at: usize, calls: usize, server: &TlsConnector, pool: Option<&Pool<TlsStream>>) {
     let own = match pool {
-        None => Some(server.connect().expect("a server is there").build()),
+        None => Some(opened(server)),
         Some(_) => None,
     };
     for number in 0..calls {

@@ -8,5 +8,5 @@ linter_says 'clippy finds nothing in them' cargo-clippy ' 0\.1\.95' rust-clippy 
 several=("$run/rust/target/release/examples/several")
 . "$here/several.sh"
 for way in clients pool; do
-    crowd "200 by $way" 2000 "$run/rust/target/release/examples/crowd" "$way" 200 5 $((20 * slack))
+    crowd "200 by $way" 10000 "$run/rust/target/release/examples/crowd" "$way" 200 25 $((20 * slack))
 done
