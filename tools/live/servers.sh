@@ -43,7 +43,7 @@ has_read() { # COUNT PROCESS
 # A crowd calls both, while they are killed by turns and come back. Its program writes a line for each change, `NAME STATUS
 # SENT`, and for each signature, whose name begins with s. What was told is compared with what each server has read.
 crowd() { # WHAT CALLS PROGRAM WORD..: CALLS are those that are told
-    local which process deaths=0
+    local which process lives deaths=0
     begin "$1"
     up "$a" named
     up "$b" named
@@ -53,8 +53,11 @@ crowd() { # WHAT CALLS PROGRAM WORD..: CALLS are those that are told
     while kill -0 "$process" 2>/dev/null; do
         for which in "$a" "$b"; do
             has_read $(($2 / 12)) "$process" || break 2
+            lives=$(grep -c ready "$work/server.$which")
             kill -USR1 "$(<"$work/process.$which")"
             deaths=$((deaths + 1))
+            # (where both were dead at once, each call would fail)
+            until (($(grep -c ready "$work/server.$which") > lives)); do sleep 0.05; done
         done
     done
     wait "$process"

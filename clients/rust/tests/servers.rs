@@ -9,7 +9,7 @@ use std::io::ErrorKind;
 use std::net::TcpStream;
 use std::sync::{Arc, Mutex};
 use std::thread;
-use std::time::{Duration, Instant};
+use std::time::{Duration, Instant, SystemTime};
 
 /// The next call ends so, and each later one says that the connection is closed.
 fn is_lost(client: &TlsClient, wanted: &str) {
@@ -390,8 +390,11 @@ fn an_encrypted_key() {
 /// What a log was told.
 type Seen = Arc<Mutex<Vec<(EventKind, String)>>>;
 
-/// A client that reconnects, as this user, and its log.
+/// A client that reconnects, and its log. No fake has seen its user, also where these tests are run
+/// again: some count what came of each.
 fn reconnecting(fake: &str, user: &str) -> (TlsClient, Seen) {
+    let now = SystemTime::now().duration_since(SystemTime::UNIX_EPOCH).unwrap();
+    let user = format!("{user} {} {}", std::process::id(), now.as_nanos());
     let seen = Seen::default();
     let log = Arc::clone(&seen);
     let builder = connector(fake, "localhost", "client").with_reconnect(true).connect().unwrap();

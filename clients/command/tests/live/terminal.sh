@@ -14,3 +14,15 @@ METSUWAN_CERTIFICATE=$certificate METSUWAN_KEY=$key
 on_terminal 'an answer is a table' '' 0 'unique_identifier +k' rename id:k name
 on_terminal 'an error is words' '' 2 'kmip: DATA has to be' sign id:k 00
 on_terminal 'a password is asked for, and not shown' $'geheim & co\n' 0 'operations +Create' query --user alice
+# What a server wrote, which a terminal would act on, is escaped: there, and in a line of JSON that may come to one.
+no_sign() { # WHAT
+    ! LC_ALL=C grep -qaP '\x1b|\x7f|\xc2[\x80-\x9f]|\xe2\x80\xa8' "$said"
+    verdict "$1"
+}
+fake odd_text
+METSUWAN_SERVER=$host:$port
+on_terminal "a server's text" '' 1 'kmip: .*\\u\{9b\}.*\\u\{2028\}' query
+no_sign 'none of its signs acts on the terminal'
+kmip_is 'a line of it' 1 query
+says 'has it escaped' '\\u009B.*\\u2028'
+no_sign 'and no sign that acts'

@@ -10,6 +10,7 @@ import contextlib
 import pathlib
 import sys
 import threading
+import time
 from typing import Any, ContextManager, Dict, List
 
 sys.path.insert(0, str(pathlib.Path(__file__).resolve().parents[2]))
@@ -34,9 +35,18 @@ def call(kmip: Any, name: str) -> Any:
     return kmip.sign(name, b'x') if name.startswith('s') else kmip.activate(name)
 
 
+def opened(settings: Dict[str, Any]) -> Client:
+    """A client, once a server is there: both may be dead at once."""
+    for _ in range(100):
+        with contextlib.suppress(ConnectionLost):
+            return Client(**settings)
+        time.sleep(0.2)
+    raise SystemExit('no server is there')
+
+
 def by_threads(at: int, calls: int, way: str, pool: Pool, settings: Dict[str, Any]) -> None:
     none: ContextManager[Any] = contextlib.nullcontext()
-    with Client(**settings) if way == 'clients' else none as client:
+    with opened(settings) if way == 'clients' else none as client:
         for name in names(at, calls):
             try:
                 with contextlib.ExitStack() as stack:
