@@ -1,8 +1,6 @@
-//! Tests of kmip_key_files: keys of each kind and curve by openssl, in each format and by parts.
+//! Tests of kmip_key_files: keys of each kind by openssl, in each format and by their parts.
 #![tactic(auto)]
 
-#[cfg(test)]
-mod curves;
 #[cfg(test)]
 mod formats;
 #[cfg(test)]
