@@ -5,9 +5,9 @@ look_for_sanitizers
 build_provider with_sanitizers ${sanitized[@]+"${sanitized[@]}"}
 build_test program ${sanitized[@]+"${sanitized[@]}"}
 signer
-a=$port process_of_a=$signer
+a=$port process_of_a=$signer of_a=$signed
 signer
-b=$port process_of_b=$signer
+b=$port process_of_b=$signer of_b=$signed
 servers=localhost:$a,localhost:$b configure 'order = turns' 'connections = 50'
 signed_by_all() {
     cat "$work"/signer.?????? | grep -c '^Sign '
@@ -41,7 +41,5 @@ rounds >go
 wait "$program"
 verdict 'the crowd ends well'
 grep -v '^round ' told
-for log in "$work"/signer.??????; do signs+=("$(grep -c '^Sign ' "$log")"); done
-printf '%s\n' "${signs[*]}" >"$said"
-((signs[0] > 0 && signs[1] > 0))
+grep -q '^Sign ' "$of_a" && grep -q '^Sign ' "$of_b"
 verdict 'both servers have signed'
