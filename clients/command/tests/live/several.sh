@@ -1,4 +1,4 @@
-# shellcheck shell=bash disable=SC1091,SC2154
+# shellcheck shell=bash disable=SC1091,SC2094,SC2154
 # Several servers: each way of failing with two of them. A call is a process, and begins with the first.
 . "$here/servers.sh"
 
