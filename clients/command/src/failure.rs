@@ -144,7 +144,7 @@ fn hint(text: &str) -> &'static str {
     HINTS.iter().find(|(part, _)| text.contains(part)).map_or("", |(_, hint)| hint)
 }
 
-/// Whether a terminal would act on this sign, or not show it, or turn the direction of what follows:
+/// Whether a terminal would act on this sign, not show it, or turn the direction of what follows:
 /// as the client's own errors have it.
 fn is_odd(it: char) -> bool {
     it.is_control()

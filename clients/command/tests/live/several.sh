@@ -1,4 +1,4 @@
-# shellcheck shell=bash disable=SC1091,SC2154
+# shellcheck shell=bash disable=SC1091,SC2094,SC2154
 # Several servers: each way of failing with two of them. A call is a process, and begins with the first.
 . "$here/servers.sh"
 
@@ -105,8 +105,15 @@ for ((at = 0; at < 40; at++)); do METSUWAN_ORDER=turns makes 0 sign id:4 hex:00;
 verdict "$what: processes spread over both"
 begin 'old connections'
 up "$a" good && up "$b" good
+# (a machine that is busy begins the script late: each call waits for the answer before, and then grows old)
+: >"$said"
 {
-    for ((at = 0; at < 4; at++)); do echo 'sign id:4 hex:00' && sleep 0.4; done
+    SECONDS=0
+    for ((at = 1; at < 5; at++)); do
+        echo 'sign id:4 hex:00'
+        until (($(wc -l <"$said") >= at || SECONDS > 20 * slack)); do sleep 0.05; done
+        sleep 0.4
+    done
 } | METSUWAN_ORDER=turns METSUWAN_MAX_AGE=0.2 METSUWAN_CONF=/dev/null METSUWAN_SERVER=$both \
     METSUWAN_CERTIFICATE=$certificate METSUWAN_KEY=$key METSUWAN_AUTHORITY=$authority "$kmip" run - >"$said" 2>&1
 verdict "$what: a script"
