@@ -1,6 +1,8 @@
-//! Tests of kmip_key_files: keys of each kind by openssl, in each format and by their parts.
+//! Tests of kmip_key_files: keys of each kind and curve by openssl, in each format and by parts.
 #![tactic(auto)]
 
+#[cfg(test)]
+mod curves;
 #[cfg(test)]
 mod formats;
 #[cfg(test)]
