@@ -23,7 +23,7 @@ pub build_some :
 unfolding build
 build_some zero fields items ne = absurd (ne refl)
 build_some (suc n) fields items ne =
-    ap (λ k. flat_map (field_trees (build k) items) fields) (less_one n)
+    ap (λ (k : ℕ). flat_map (field_trees (build k) items) fields) (less_one n)
 
 pub lacks_none : (level : ℕ) (fields : List Field) (items : List Item) → level ≡ 0 → all_lacks level fields items ≡ []
 unfolding all_lacks
@@ -36,4 +36,4 @@ pub lacks_some :
 unfolding all_lacks
 lacks_some zero fields items ne = absurd (ne refl)
 lacks_some (suc n) fields items ne =
-    ap (λ k. flat_map (field_lacks (all_lacks k) items) fields) (less_one n)
+    ap (λ (k : ℕ). flat_map (field_lacks (all_lacks k) items) fields) (less_one n)

@@ -1,5 +1,5 @@
 -- An item that a field takes stands in the payload, and no level more gives another payload.
-use Rattle.std.proofs.Common.{◌≡◌, ℕ, zero, suc, ◌+◌, ◌≤◌, Bool, true, false, ◌==◌, ◌&&◌, ◌||◌, not, cond, List, [], ◌∷◌, ◌++◌, Option, Some, None, Contains, find, inl, inr, refl, sym, ap, ◌∙◌, subst, arith, rules, tests, eqb-true}
+use Rattle.std.proofs.Common.{◌≡◌, ℕ, zero, suc, ◌+◌, ◌≤◌, Bool, true, false, ◌==◌, ◌&&◌, ◌||◌, not, cond, List, [], ◌∷◌, ◌++◌, Option, Some, None, Contains, find, inl, inr, refl, sym, ap, ◌∙◌, subst, arith, eq-eqb, eqb-true}
 use Rattle.std.specs.List.{flat_map, list_any, list_all}
 use Rattle.std.proofs.lemmas.Bool.{false≢true}
 use Rattle.kmip_wire.specs.Tree.{Tree, structure, trees_of}
@@ -8,7 +8,7 @@ use Rattle.kmip_rows.specs.declared.rows.Place.{Place}
 use Rattle.kmip_rows.specs.declared.rows.Place.TheVariants.{Tag, Object}
 use Rattle.kmip_rows.specs.Rows.{Field, Structure, Row, structure_in}
 use Rattle.kmip_rows.specs.Structures.{structures, objects}
-use Rattle.kmip_payloads.specs.Items.{Item}
+use Rattle.kmip_payloads.specs.Items.{Item, item_at}
 use Rattle.kmip_payloads.specs.Payload.{kept, here_of, below_of, here, below, are_none, is_needed, stands, structure_of, tag_trees, place_trees, field_trees, build, LEVELS}
 use Rattle.kmip_payloads.specs.Strays.{is_under, has_field, fields_of, has_place, is_taken, first_stray}
 use Rattle.kmip_payloads.specs.Laws.{tags_of, has_levels, StandsAt}
@@ -21,23 +21,23 @@ kept_in true x e = inl refl
 kept_in false x e = absurd (false≢true e)
 
 same_tag : (tag : ℕ) → (tag == tag) ≡ true
-same_tag tag = search (rules, tests)
+same_tag tag = eq-eqb tag tag refl
 
 here_in :
-    (tree : Tree) (items : List Item) → IsIn (record { path = []; tree = tree }) items
+    (tree : Tree) (items : List Item) → IsIn (item_at [] tree) items
     → IsIn tree (here (tag_of tree) items)
 here_in tree items h =
-    in_flat_map (here_of (tag_of tree)) items (record { path = []; tree = tree }) tree h
+    in_flat_map (here_of (tag_of tree)) items (item_at [] tree) tree h
     (kept_in (tag_of tree == tag_of tree) tree (same_tag (tag_of tree)))
 
 below_in :
     (outer : ℕ) (path : List ℕ) (tree : Tree) (items : List Item)
-    → IsIn (record { path = outer ∷ path; tree = tree }) items
-    → IsIn (record { path = path; tree = tree }) (below outer items)
+    → IsIn (item_at (outer ∷ path) tree) items
+    → IsIn (item_at path tree) (below outer items)
 below_in outer path tree items h =
-    in_flat_map (below_of outer) items (record { path = outer ∷ path; tree = tree })
-    (record { path = path; tree = tree }) h
-    (kept_in (outer == outer) (record { path = path; tree = tree }) (same_tag outer))
+    in_flat_map (below_of outer) items (item_at (outer ∷ path) tree)
+    (item_at path tree) h
+    (kept_in (outer == outer) (item_at path tree) (same_tag outer))
 
 some_in : {A : Type 0} (xs : List A) (x : A) → IsIn x xs → are_none xs ≡ false
 some_in [] x h = absurd h
@@ -54,7 +54,7 @@ place_has inside needed items (Tag own) tag tree u h =
     let P : ℕ → Type 0 = λ k. IsIn tree (tag_trees inside needed items k) in
     subst P (sym (eqb-true own tag u)) (h needed)
 place_has inside needed items Object tag tree u h =
-    let r = any_in (λ own. own == tag) objects u in
+    let r = any_in {A = ℕ} (λ own. own == tag) objects u in
     let P : ℕ → Type 0 = λ k. IsIn tree (tag_trees inside false items k) in
     in_flat_map (tag_trees inside false items) objects r.0 tree r.1
     (subst P (sym (eqb-true r.0 tag r.2)) (h false))
@@ -66,9 +66,9 @@ fields_have :
     → IsIn tree (build (suc level) fields items)
 unfolding build
 fields_have level fields items tag tree f h =
-    let r = any_in (λ field. is_under tag field.place) fields f in
+    let r = any_in {A = Field} (λ field. is_under tag field.place) fields f in
     in_flat_map (field_trees (build level) items) fields r.0 tree r.1
-    (place_has (build level) (is_needed (r.0).mark) items (r.0).place tag tree r.2 h)
+    (place_has (build level) (is_needed r.0.mark) items r.0.place tag tree r.2 h)
 
 in_structure :
     (inside : List Field → List Item → List Tree) (needed : Bool) (items : List Item) (tag : ℕ)
@@ -76,7 +76,7 @@ in_structure :
     → IsIn (structure tag (trees_of (inside row.fields (below tag items))))
     (tag_trees inside needed items tag)
 in_structure inside needed items tag row e some =
-    let own : row.tag ≡ tag = eqb-true row.tag tag (found_in (λ first. first.tag == tag) structures row e).1 in
+    let own : row.tag ≡ tag = eqb-true row.tag tag (found_in {A = Structure} (λ first. first.tag == tag) structures row e).1 in
     let its : Tree = structure tag (trees_of (inside row.fields (below tag items))) in
     let P : Bool → Type 0 = λ none. IsIn its (here tag items ++
     cond (not none || (needed && are_none (here tag items)))
@@ -84,7 +84,7 @@ in_structure inside needed items tag row e some =
     let Q : Option Structure → Type 0 = λ found. IsIn its (structure_of inside (below tag items) found) in
     subst P (sym some)
     (in_right (here tag items) (structure_of inside (below tag items) (structure_in structures tag)) its
-    (subst Q (sym e) (inl (ap (λ k. structure k (trees_of (inside row.fields (below tag items)))) (sym own)))))
+    (subst Q (sym e) (inl (ap (λ (k : ℕ). structure k (trees_of (inside row.fields (below tag items)))) (sym own)))))
 
 -- ---- levels
 
@@ -99,7 +99,7 @@ no_place (outer ∷ path) tag h = false≢true h
 under_in : (place : Place) (tag : ℕ) → is_under tag place ≡ true → IsIn tag (tags_of place)
 under_in (Tag own) tag u = inl (sym (eqb-true own tag u))
 under_in Object tag u =
-    let r = any_in (λ own. own == tag) objects u in
+    let r = any_in {A = ℕ} (λ own. own == tag) objects u in
     let P : ℕ → Type 0 = λ k. IsIn k objects in subst P (eqb-true r.0 tag r.2) r.1
 
 level_down :
@@ -108,11 +108,11 @@ level_down :
     → has_levels level (fields_of (structure_in structures tag)) ≡ true
 unfolding has_levels
 level_down level fields tag l f =
-    let r = any_in (λ field. is_under tag field.place) fields f in
+    let r = any_in {A = Field} (λ field. is_under tag field.place) fields f in
     let p : ℕ → Bool = λ k. has_levels level (fields_of (structure_in structures k)) in
-    all_in p (tags_of (r.0).place) tag
-    (all_in (λ field. list_all p (tags_of field.place)) fields r.0 l r.1)
-    (under_in (r.0).place tag r.2)
+    all_in p (tags_of r.0.place) tag
+    (all_in {A = Field} (λ field. list_all p (tags_of field.place)) fields r.0 l r.1)
+    (under_in r.0.place tag r.2)
 
 no_levels : (fields : List Field) → has_levels zero fields ≡ true → are_none fields ≡ true
 unfolding has_levels
@@ -126,10 +126,10 @@ within :
     → has_field fields outer ≡ true
     → has_place (fields_of found) path (tag_of tree) ≡ true
     → has_levels level (fields_of found) ≡ true
-    → IsIn (record { path = path; tree = tree }) (below outer items)
+    → IsIn (item_at path tree) (below outer items)
     → ((fields : List Field) (items : List Item) → has_levels level fields ≡ true
     → has_place fields path (tag_of tree) ≡ true
-    → IsIn (record { path = path; tree = tree }) items → StandsAt path tree (build level fields items))
+    → IsIn (item_at path tree) items → StandsAt path tree (build level fields items))
     → StandsAt (outer ∷ path) tree (build (suc level) fields items)
 within outer path tree level fields items None e f h l i deeper = absurd (no_place path (tag_of tree) h)
 within outer path tree level fields items (Some row) e f h l i deeper =
@@ -138,14 +138,14 @@ within outer path tree level fields items (Some row) e f h l i deeper =
       to_contains (build (suc level) fields items) (structure outer (trees_of inner))
           (fields_have level fields items outer (structure outer (trees_of inner)) f
           (λ needed. in_structure (build level) needed items outer row e
-          (some_in (below outer items) (record { path = path; tree = tree }) i))),
+          (some_in (below outer items) (item_at path tree) i))),
       deeper row.fields (below outer items) l h i,
     )
 
 stands_at :
     (path : List ℕ) (tree : Tree) (level : ℕ) (fields : List Field) (items : List Item)
     → has_levels level fields ≡ true → has_place fields path (tag_of tree) ≡ true
-    → IsIn (record { path = path; tree = tree }) items → StandsAt path tree (build level fields items)
+    → IsIn (item_at path tree) items → StandsAt path tree (build level fields items)
 stands_at [] tree zero fields items l h i =
     absurd (no_fields fields (tag_of tree) (no_levels fields l) h)
 stands_at [] tree (suc level) fields items l h i =
@@ -204,7 +204,7 @@ same_structure :
     → more (fields_of found) items ≡ less (fields_of found) items
     → structure_of more items found ≡ structure_of less items found
 same_structure more less items None e = refl
-same_structure more less items (Some row) e = ap (λ trees. structure row.tag (trees_of trees) ∷ []) e
+same_structure more less items (Some row) e = ap (λ (trees : List Tree). structure row.tag (trees_of trees) ∷ []) e
 
 same_tags :
     (more less : List Field → List Item → List Tree) (items : List Item) (needed : Bool) (tags : List ℕ)
@@ -215,8 +215,8 @@ same_tags more less items needed [] same = refl
 same_tags more less items needed (tag ∷ tags) same =
     let first = same_structure more less (below tag items) (structure_in structures tag) (same tag (inl refl) (below tag items)) in
     let rest = same_tags more less items needed tags (λ other i. same other (inr i)) in
-    ap (λ its. (here tag items ++ cond (stands needed tag items) its []) ++ flat_map (tag_trees more needed items) tags) first
-    ∙ ap (λ its. tag_trees less needed items tag ++ its) rest
+    ap (λ (its : List Tree). (here tag items ++ cond (stands needed tag items) its []) ++ flat_map (tag_trees more needed items) tags) first
+    ∙ ap (λ (its : List Tree). tag_trees less needed items tag ++ its) rest
 
 same_place :
     (more less : List Field → List Item → List Tree) (items : List Item) (needed : Bool) (place : Place)
@@ -224,7 +224,7 @@ same_place :
     → more (fields_of (structure_in structures tag)) inner ≡ less (fields_of (structure_in structures tag)) inner)
     → place_trees more needed items place ≡ place_trees less needed items place
 same_place more less items needed (Tag tag) same =
-    ap (λ its. here tag items ++ cond (stands needed tag items) its [])
+    ap (λ (its : List Tree). here tag items ++ cond (stands needed tag items) its [])
     (same_structure more less (below tag items) (structure_in structures tag) (same tag (inl refl) (below tag items)))
 same_place more less items needed Object same = same_tags more less items false objects same
 
@@ -235,9 +235,9 @@ same_fields :
     → flat_map (field_trees more items) fields ≡ flat_map (field_trees less items) fields
 same_fields more less items [] same = refl
 same_fields more less items (field ∷ fields) same =
-    ap (λ its. its ++ flat_map (field_trees more items) fields)
+    ap (λ (its : List Tree). its ++ flat_map (field_trees more items) fields)
     (same_place more less items (is_needed field.mark) field.place (same field (inl refl)))
-    ∙ ap (λ its. field_trees less items field ++ its)
+    ∙ ap (λ (its : List Tree). field_trees less items field ++ its)
     (same_fields more less items fields (λ other i. same other (inr i)))
 
 more_of_none :
@@ -259,5 +259,5 @@ same_levels (suc level) (suc more) fields items l le =
     (λ field f tag t inner.
     let p : ℕ → Bool = λ k. has_levels level (fields_of (structure_in structures k)) in
     same_levels level more (fields_of (structure_in structures tag)) inner
-    (all_in p (tags_of field.place) tag (all_in (λ field. list_all p (tags_of field.place)) fields field l f) t)
+    (all_in p (tags_of field.place) tag (all_in {A = Field} (λ field. list_all p (tags_of field.place)) fields field l f) t)
     (omega arith))

@@ -7,10 +7,14 @@ use Rattle.kmip_payloads.specs.declared.item.Scalar.{Scalar as Lent}
 use Rattle.kmip_payloads.specs.declared.item.Scalar.TheVariants as scalars
 use Rattle.kmip_payloads.specs.declared.item.Item.{Item as LentItem}
 
--- an item, with the tags of the structures round it, from outside in: none for a field of the payload
+-- an item, with the tags of the structures round it, from outside in: none for a field of the
+-- payload
 pub record Item : Type 0 where
   pub path : List ℕ
   pub tree : Tree
+
+abbrev pub item_at : List ℕ → Tree → Item
+item_at path tree = record { path = path; tree = tree }
 
 abbrev pub scalar_view : Lent → Scalar
 scalar_view (scalars.Integer z) = integer z
@@ -28,4 +32,4 @@ value_tree tag (values.Scalar value) = scalar tag (scalar_view value)
 value_tree tag (values.Structure items) = structure tag (trees_of items.now)
 
 abbrev pub item_view : LentItem → Item
-item_view x = record { path = x.path.now; tree = value_tree x.tag x.value }
+item_view x = item_at x.path.now (value_tree x.tag x.value)

@@ -20,8 +20,8 @@ tags_of Object = objects
 unfoldable pub has_levels : ℕ → List Field → Bool
 has_levels zero fields = are_none fields
 has_levels (suc level) fields =
-    list_all (λ field. list_all (λ tag. has_levels level (fields_of (structure_in structures tag)))
-    (tags_of field.place)) fields
+    list_all (λ field. list_all
+    (λ tag. has_levels level (fields_of (structure_in structures tag))) (tags_of field.place)) fields
 
 -- whether the walk goes through all levels of an operation's payload
 abbrev pub are_all_levels : Option Row → Bool
@@ -32,4 +32,5 @@ are_all_levels (Some row) = has_levels LEVELS row.request
 abbrev pub StandsAt : List ℕ → Tree → List Tree → Type 0
 StandsAt [] tree trees = Contains trees tree
 StandsAt (outer ∷ path) tree trees =
-    (inner : List Tree) × Contains trees (structure outer (trees_of inner)) × StandsAt path tree inner
+    (inner : List Tree) × Contains trees (structure outer (trees_of inner))
+    × StandsAt path tree inner

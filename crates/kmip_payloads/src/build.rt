@@ -1,5 +1,5 @@
 //! The walk over the fields of a payload.
-ghost use Rattle.std.specs.Prelude.{◌≡◌, ◌++◌, ◌<◌, ◌^◌, map, flat_map, option_map, IfOk, OnOk};
+ghost use Rattle.std.specs.Prelude.{◌≡◌, ◌++◌, ◌<◌, ◌^◌, map, flat_map, Some, IfOk, OnOk};
 ghost use Rattle.kmip_wire.specs.Tree.{structure as the_structure, trees_of};
 ghost use Rattle.kmip_rows.specs.Rows.{row_view, field_view, structure_view};
 ghost use Rattle.kmip_rows.specs.Structures.{objects};
@@ -39,7 +39,8 @@ fn push_structure(
 ) -> Result<(), OutOfMemory>
     requires { row.now.tag < 2 ^ 24 }
     ensures { OnOk result (out.new.items ≡ out.old.items ++
-        payload.structure_of (payload.build level) (map item_view items.now) (Some (structure_view row.now))) }
+        payload.structure_of (payload.build level) (map item_view items.now)
+        (Some (structure_view row.now))) }
 {
     let mut inner = Vec::new(alloc);
     push_fields(alloc, level, row.fields, items, &mut inner)?;
@@ -81,7 +82,8 @@ fn push_object(
     out: &mut Vec<Tree>,
 ) -> Result<(), OutOfMemory>
     ensures { OnOk result (out.new.items ≡ out.old.items ++
-        flat_map (payload.tag_trees (payload.build level) false (map item_view items.now)) objects) }
+        flat_map (payload.tag_trees (payload.build level) false (map item_view items.now))
+        objects) }
 {
     for tag in object_tags() {
         push_tag(alloc, level, false, *tag, items, out)?;
@@ -99,7 +101,8 @@ fn push_field(
     out: &mut Vec<Tree>,
 ) -> Result<(), OutOfMemory>
     ensures { OnOk result (out.new.items ≡ out.old.items ++
-        payload.field_trees (payload.build level) (map item_view items.now) (field_view field.now)) }
+        payload.field_trees (payload.build level) (map item_view items.now)
+        (field_view field.now)) }
 {
     match field.place {
         Place::Tag(tag) => push_tag(alloc, level, is_needed(field.mark), tag, items, out),

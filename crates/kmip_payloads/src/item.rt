@@ -2,7 +2,7 @@
 ghost use Rattle.std.specs.Prelude.{◌≡◌, ℕ, IfOk};
 ghost use Rattle.kmip_wire.specs.Tree.{scalar};
 ghost use Rattle.kmip_wire.specs.Sees.{tree_of_node};
-ghost use Rattle.kmip_payloads.specs.Items.{scalar_view, value_tree, item_view};
+ghost use Rattle.kmip_payloads.specs.Items.{scalar_view, value_tree, item_at, item_view};
 
 use kmip_wire::{Blob, Node, OutOfMemory, Tag, Text, Tree, Trees, TryClone};
 use std::alloc::Global;
@@ -71,7 +71,7 @@ fn value_of(node: &Node) -> Value<'_>
 impl<'a> Item<'a> {
     /// A whole tree as an item, as one of several Attributes.
     pub fn of_tree(path: &'a [u32], tree: &'a Tree) -> Item<'a>
-        ensures { item_view result ≡ record { path = path.now; tree = tree.now } }
+        ensures { item_view result ≡ item_at path.now tree.now }
     {
         Item {
             path,
@@ -101,7 +101,8 @@ fn scalar_node(alloc: Global, value: Scalar<'_>) -> Result<Node, OutOfMemory>
 
 /// The node of a value.
 fn node_of(alloc: Global, value: Value<'_>) -> Result<Node, OutOfMemory>
-    ensures { IfOk result (λ node. (tag : ℕ) → tree_of_node tag node ≡ value_tree tag value.entry) }
+    ensures { IfOk result (λ node. (tag : ℕ) →
+        tree_of_node tag node ≡ value_tree tag value.entry) }
 {
     match value {
         Value::Scalar(scalar) => scalar_node(alloc, scalar),

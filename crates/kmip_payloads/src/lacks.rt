@@ -74,7 +74,8 @@ fn push_object_lacks(
     out: &mut Vec<Place>,
 ) -> Result<(), OutOfMemory>
     ensures { OnOk result (out.new.items ≡ out.old.items ++
-        flat_map (lacks.tag_lacks (lacks.all_lacks level) false (map item_view items.now)) objects) }
+        flat_map (lacks.tag_lacks (lacks.all_lacks level) false (map item_view items.now))
+        objects) }
 {
     for tag in object_tags() {
         push_tag_lacks(alloc, level, false, *tag, items, out)?;

@@ -9,10 +9,11 @@ ghost use Rattle.kmip_payloads.specs.Payload.{build, LEVELS};
 ghost use Rattle.kmip_payloads.specs.Strays.{first_stray};
 ghost use Rattle.kmip_payloads.specs.Laws.{has_levels, are_all_levels, StandsAt};
 
-/// The payload of no operation has more levels than those that the walk goes through; and where that
-/// is so, a walk through more levels gives the same.
+/// The payload of no operation has more levels than those that the walk goes through; and where
+/// that is so, a walk through more levels gives the same.
 pub fn levels_suffice()
-    ensures operations { list_all (λ operation. are_all_levels (row_of operation)) operation_variants ≡ true }
+    ensures operations { list_all (λ operation. are_all_levels (row_of operation))
+        operation_variants ≡ true }
     ensures same { (row : Row) → (items : List Item) → (more : ℕ) →
         has_levels LEVELS row.request ≡ true →
         build (LEVELS + more) row.request items ≡ build LEVELS row.request items }

@@ -24,7 +24,8 @@ pub(crate) fn is_needed(mark: Mark) -> bool
 /// Whether the item stands here under the tag.
 #[tactic(auto, using(crate::proofs::Views::tag_of_value))]
 fn is_here(tag: u32, item: &Item<'_>) -> bool
-    ensures { payload.here_of tag (item_view item.now) ≡ payload.kept result (item_view item.now).tree }
+    ensures { payload.here_of tag (item_view item.now) ≡
+        payload.kept result (item_view item.now).tree }
 {
     match item.path {
         [] => item.tag.number() == tag,

@@ -123,8 +123,16 @@ const STRAYS: &[(&str, Operation, &[Given], Option<(u32, usize)>)] = &[
         "below the deepest field",
         Operation::Register,
         &[
-            item!([PRIVATE_KEY, KEY_BLOCK, KEY_WRAPPING_DATA, ENCRYPTION_KEY_INFORMATION, CRYPTOGRAPHIC_PARAMETERS] TAG_LENGTH, Scalar::Integer(1)),
-            item!([PRIVATE_KEY, KEY_BLOCK, KEY_WRAPPING_DATA, ENCRYPTION_KEY_INFORMATION, CRYPTOGRAPHIC_PARAMETERS, TAG_LENGTH] TAG_LENGTH, Scalar::Integer(1)),
+            item!(
+                [PRIVATE_KEY, KEY_BLOCK, KEY_WRAPPING_DATA,
+                ENCRYPTION_KEY_INFORMATION, CRYPTOGRAPHIC_PARAMETERS]
+                TAG_LENGTH, Scalar::Integer(1)
+            ),
+            item!(
+                [PRIVATE_KEY, KEY_BLOCK, KEY_WRAPPING_DATA, ENCRYPTION_KEY_INFORMATION,
+                CRYPTOGRAPHIC_PARAMETERS, TAG_LENGTH]
+                TAG_LENGTH, Scalar::Integer(1)
+            ),
         ],
         Some((tags::TAG_LENGTH, 6)),
     ),

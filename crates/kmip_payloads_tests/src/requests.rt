@@ -33,10 +33,19 @@ const ROWS: &[Row] = &[
         name: "Get, wrapped",
         operation: Operation::Get,
         items: &[
-            item!([KEY_WRAPPING_SPECIFICATION] ATTRIBUTE_NAME, Scalar::TextString("Cryptographic Usage Mask")),
+            item!(
+                [KEY_WRAPPING_SPECIFICATION]
+                ATTRIBUTE_NAME, Scalar::TextString("Cryptographic Usage Mask")
+            ),
             item!([KEY_WRAPPING_SPECIFICATION] ENCODING_OPTION, Scalar::Enumeration(1)),
-            item!([KEY_WRAPPING_SPECIFICATION, ENCRYPTION_KEY_INFORMATION, CRYPTOGRAPHIC_PARAMETERS] BLOCK_CIPHER_MODE, Scalar::Enumeration(13)),
-            item!([KEY_WRAPPING_SPECIFICATION, ENCRYPTION_KEY_INFORMATION] UNIQUE_IDENTIFIER, Scalar::TextString("kek")),
+            item!(
+                [KEY_WRAPPING_SPECIFICATION, ENCRYPTION_KEY_INFORMATION, CRYPTOGRAPHIC_PARAMETERS]
+                BLOCK_CIPHER_MODE, Scalar::Enumeration(13)
+            ),
+            item!(
+                [KEY_WRAPPING_SPECIFICATION, ENCRYPTION_KEY_INFORMATION]
+                UNIQUE_IDENTIFIER, Scalar::TextString("kek")
+            ),
             item!([KEY_WRAPPING_SPECIFICATION] WRAPPING_METHOD, Scalar::Enumeration(1)),
             item!([KEY_WRAPPING_SPECIFICATION] ATTRIBUTE_NAME, Scalar::TextString("Name")),
             item!([] KEY_FORMAT_TYPE, Scalar::Enumeration(1)),
@@ -63,10 +72,16 @@ const ROWS: &[Row] = &[
             item!([] OBJECT_TYPE, Scalar::Enumeration(7)),
             item!([] UNIQUE_IDENTIFIER, Scalar::TextString("1")),
             item!([DERIVATION_PARAMETERS] ITERATION_COUNT, Scalar::Integer(4096)),
-            item!([DERIVATION_PARAMETERS] SALT, Scalar::ByteString(&[0x11, 0x22, 0x33, 0x44, 0x55, 0x66, 0x77, 0x88])),
+            item!(
+                [DERIVATION_PARAMETERS]
+                SALT, Scalar::ByteString(&[0x11, 0x22, 0x33, 0x44, 0x55, 0x66, 0x77, 0x88])
+            ),
             item!([DERIVATION_PARAMETERS] DERIVATION_DATA, Scalar::ByteString(&[0xAA, 0xBB, 0xCC])),
             item!([DERIVATION_PARAMETERS] INITIALIZATION_VECTOR, Scalar::ByteString(&[1, 2])),
-            item!([DERIVATION_PARAMETERS, CRYPTOGRAPHIC_PARAMETERS] HASHING_ALGORITHM, Scalar::Enumeration(6)),
+            item!(
+                [DERIVATION_PARAMETERS, CRYPTOGRAPHIC_PARAMETERS]
+                HASHING_ALGORITHM, Scalar::Enumeration(6)
+            ),
             item!([] UNIQUE_IDENTIFIER, Scalar::TextString("22")),
             item!([] DERIVATION_METHOD, Scalar::Enumeration(1)),
         ],
