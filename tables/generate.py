@@ -18,25 +18,31 @@ import curves
 import encodings_tables
 import enumerations
 import names_page
+import operations
 import plain_tables
 import tags
 from values import read_enumerations
 
 ROOT = Path(__file__).resolve().parent.parent
-WRITERS = [tags, enumerations, encodings_tables, plain_tables, names_page, curves]
+WRITERS = [tags, enumerations, encodings_tables, plain_tables, names_page, curves, operations]
 HEAD = "Written by tables/generate.py from tables/*.toml: change these instead."
 COMMENTS = {".rt": "// {}", ".antt": "-- {}", ".rs": "// {}", ".py": "# {}", ".bash": "# {}", ".md": "<!-- {} -->"}
 
 
 def read_tables():
-    """tags.toml as a list of numbers with names, the enumerations, checked against it, and the curves."""
+    """tags.toml as a list of numbers with names, and against it the enumerations, the curves and the operations."""
     read = {
         name: tomllib.loads((ROOT / "tables" / f"{name}.toml").read_text(encoding="utf-8"))
-        for name in ("tags", "enumerations", "curves")
+        for name in ("tags", "enumerations", "curves", "operations")
     }
     all_tags = tags.read_tags(read["tags"])
     found = read_enumerations(read["enumerations"], all_tags)
-    return {"tags": all_tags, **found, "curves": curves.read_curves(read["curves"], found["enumerations"])}
+    return {
+        "tags": all_tags,
+        **found,
+        "curves": curves.read_curves(read["curves"], found["enumerations"]),
+        "operations": operations.read_operations(read["operations"], all_tags, found["enumerations"]),
+    }
 
 
 def with_head(path, text):

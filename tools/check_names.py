@@ -200,12 +200,79 @@ def check_curves():
         expect(f"kmip_der, {file}", {"rows": len(found)}, {"rows": len(wanted)})
 
 
+# Where PyKMIP has another mark than KMIP: what may be left out there, though it is needed; Key Value, which
+# KMIP 1.2 (2.1.3) needs no more; and Template, which it reads with one attribute at least.
+BY_KMIP = {
+    "Archive response UNIQUE_IDENTIFIER": "",
+    "Cancel request ASYNCHRONOUS_CORRELATION_VALUE": "",
+    "Cancel response ASYNCHRONOUS_CORRELATION_VALUE": "",
+    "Cancel response CANCELLATION_RESULT": "",
+    "Check response UNIQUE_IDENTIFIER": "",
+    "GetUsageAllocation request USAGE_LIMITS_COUNT": "",
+    "GetUsageAllocation response UNIQUE_IDENTIFIER": "",
+    "ObtainLease response UNIQUE_IDENTIFIER": "",
+    "ObtainLease response LEASE_TIME": "",
+    "ObtainLease response LAST_CHANGE_DATE": "",
+    "Poll request ASYNCHRONOUS_CORRELATION_VALUE": "",
+    "Recover response UNIQUE_IDENTIFIER": "",
+    "SignatureVerify request DATA": "",
+    "SignatureVerify request SIGNATURE_DATA": "",
+    "KeyBlock structure KEY_VALUE": "?",
+    "Template structure ATTRIBUTE": "+",
+}
+MARKS = {"One": "", "AtMostOne": "?", "AnyNumber": "*", "AtLeastOne": "+"}
+# What begins a payload or a structure in code and in specs, and a field there.
+BEGINS = re.compile(r"operation: Operation::(\w+)|row operations\.(\w+)|^ +tag: tags::(\w+)|structure tags\.(\w+)")
+FIELDS = {
+    "rt": re.compile(r"field!\((?:(object|same) )?(\w+)(?: (\w+))?, (\d), \"(\w+)\"\)"),
+    "antt": re.compile(r"\b(object|same|field) (\w+)(?: tags\.(\w+))? (\d) \(codes \"(\w+)\"\)"),
+}
+
+
+def payloads_of(*path):
+    """The fields of each payload or structure of a file: whether each is the request's, mark, tag, version and name."""
+    found, key = {}, ""
+    for line in read("kmip_rows", *path).splitlines():
+        begins = BEGINS.search(line)
+        if begins:
+            code, spec, *tags = begins.groups()
+            key = f"{code or spec} request" if code or spec else f"{tags[0] or tags[1]} structure"
+        elif "ResponseRow::Fields(" in line or "(of_fields (" in line:
+            key = key.replace("request", "response")
+        for form, mark, tag, since, name in FIELDS[path[-1].split(".")[-1]].findall(line):
+            row = (form == "same", MARKS[mark], tag or "OBJECT", int(since), name)
+            found.setdefault(key, []).append(row)
+    return found
+
+
+def check_payloads():
+    """The fields of payloads and structures: those of PyKMIP's classes, and in specs as in code."""
+    code = {**payloads_of("src", "operations.rt"), **payloads_of("src", "structures.rt")}
+    specs = {**payloads_of("specs", "Operations.antt"), **payloads_of("specs", "Structures.antt")}
+    expect("kmip_rows, specs", specs, code)
+    wanted, found = {}, {}
+    for line in lines_of("payloads.txt"):
+        name, side, *fields = line.split()
+        key = f"{snake(name).upper() if side == 'structure' else name} {side}"
+        rows = code.get(key, [])
+        # the version of a field is compared where PyKMIP tells it
+        told = ["@" in field for field in fields] + [False] * len(rows)
+        found[key] = [tag + mark + f"@1.{since}" * at for at, (_, mark, tag, since, _) in zip(told, rows)]
+        for at, field in enumerate(fields):
+            tag = re.match(r"\w+", field)[0]
+            mark = BY_KMIP.get(f"{name} {side} {tag}")
+            fields[at] = field if mark is None else tag + mark
+        wanted[key] = fields
+    expect("kmip_rows, payloads", found, wanted)
+
+
 def main():
     check_tags()
     check_types()
     check_encodings()
     check_masks()
     check_curves()
+    check_payloads()
     check_clients()
     print(f"{COUNTS['passed']} passed, {COUNTS['failed']} failed")
     sys.exit(1 if COUNTS["failed"] else 0)
