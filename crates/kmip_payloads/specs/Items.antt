@@ -1,5 +1,5 @@
 -- Items, each with where it stands in a payload.
-use Rattle.std.specs.Prelude.{ℕ, List}
+use Rattle.std.specs.Prelude.{ℕ, ◌%◌, ◌^◌, List}
 use Rattle.kmip_wire.specs.Tree.{Tree, Scalar, scalar, structure, trees_of, integer, long_integer, big_integer, enumeration, boolean, text_string, byte_string, date_time, interval}
 use Rattle.kmip_payloads.specs.declared.item.Value.{Value}
 use Rattle.kmip_payloads.specs.declared.item.Value.TheVariants as values
@@ -31,5 +31,6 @@ abbrev pub value_tree : ℕ → Value → Tree
 value_tree tag (values.Scalar value) = scalar tag (scalar_view value)
 value_tree tag (values.Structure items) = structure tag (trees_of items.now)
 
+-- a tag has three bytes (KMIP 1.0, 9.1.1.1)
 abbrev pub item_view : LentItem → Item
-item_view x = item_at x.path.now (value_tree x.tag x.value)
+item_view x = item_at x.path.now (value_tree (x.tag % 2 ^ 24) x.value)

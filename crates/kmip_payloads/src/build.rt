@@ -1,5 +1,6 @@
 //! The walk over the fields of a payload.
-ghost use Rattle.std.specs.Prelude.{◌≡◌, ◌++◌, ◌<◌, ◌^◌, map, flat_map, Some, IfOk, OnOk};
+ghost use Rattle.std.specs.Prelude.{◌≡◌, ◌++◌, ◌<◌, ◌^◌, false, map, flat_map};
+ghost use Rattle.std.specs.Prelude.{Some, IfOk, OnOk};
 ghost use Rattle.kmip_wire.specs.Tree.{structure as the_structure, trees_of};
 ghost use Rattle.kmip_rows.specs.Rows.{row_view, field_view, structure_view};
 ghost use Rattle.kmip_rows.specs.Structures.{objects};

@@ -1,11 +1,15 @@
 //! An item, which lends its bytes.
 ghost use Rattle.std.specs.Prelude.{◌≡◌, ℕ, IfOk};
 ghost use Rattle.kmip_wire.specs.Tree.{scalar};
+ghost use Rattle.kmip_wire.specs.Parts.{tag_of};
 ghost use Rattle.kmip_wire.specs.Sees.{tree_of_node};
 ghost use Rattle.kmip_payloads.specs.Items.{scalar_view, value_tree, item_at, item_view};
 
 use kmip_wire::{Blob, Node, OutOfMemory, Tag, Text, Tree, Trees, TryClone};
 use std::alloc::Global;
+
+/// How many tags there are.
+const TAGS: u32 = 0x100_0000;
 
 /// A value that is no structure, by its type: what [`Node`] owns, it lends.
 #[derive(Clone, Copy, Drop)]
@@ -44,8 +48,9 @@ pub enum Value<'a> {
 pub struct Item<'a> {
     /// The tags of the structures round it, from outside in: none for a field of the payload.
     pub path: &'a [u32],
-    /// Its tag.
-    pub tag: Tag,
+    /// Its tag, a number below 2^24: of a greater one the last three bytes, which is all that the
+    /// wire has.
+    pub tag: u32,
     /// Its value.
     pub value: Value<'a>,
 }
@@ -68,6 +73,7 @@ fn value_of(node: &Node) -> Value<'_>
     }
 }
 
+#[tactic(auto, using(crate::proofs::Views::three_bytes))]
 impl<'a> Item<'a> {
     /// A whole tree as an item, as one of several Attributes.
     pub fn of_tree(path: &'a [u32], tree: &'a Tree) -> Item<'a>
@@ -75,7 +81,7 @@ impl<'a> Item<'a> {
     {
         Item {
             path,
-            tag: tree.tag,
+            tag: tree.tag.number(),
             value: value_of(&tree.node),
         }
     }
@@ -110,13 +116,21 @@ fn node_of(alloc: Global, value: Value<'_>) -> Result<Node, OutOfMemory>
     }
 }
 
+/// The tag of an item.
+#[tactic(auto, using(crate::proofs::Views::tag_of_value))]
+pub(crate) fn tag_of(item: &Item<'_>) -> Tag
+    ensures { result ≡ tag_of (item_view item.now).tree }
+{
+    Tag::of(item.tag % TAGS)
+}
+
 /// The tree of an item.
 pub(crate) fn tree_of(alloc: Global, item: &Item<'_>) -> Result<Tree, OutOfMemory>
     ensures { IfOk result (λ tree. tree ≡ (item_view item.now).tree) }
 {
     let node = node_of(alloc, item.value)?;
     Ok(Tree {
-        tag: item.tag,
+        tag: Tag::of(item.tag % TAGS),
         node,
     })
 }

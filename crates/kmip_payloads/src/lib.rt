@@ -4,13 +4,13 @@
 
 mod build;
 mod item;
-mod lacks;
+mod lacking;
 mod laws;
 mod places;
 mod strays;
 
 pub use build::payload_of;
 pub use item::{Item, Scalar, Value};
-pub use lacks::lacks;
+pub use lacking::lacks;
 pub use laws::{levels_suffice, no_item_is_lost};
 pub use strays::first_stray;

@@ -6,7 +6,7 @@ ghost use Rattle.kmip_payloads.specs.Items.{item_view};
 ghost use Rattle.kmip_payloads.specs.Payload as payload;
 ghost use Rattle.kmip_payloads.specs.Lacks as lacks;
 
-use crate::item::{Item, tree_of};
+use crate::item::{Item, tag_of, tree_of};
 use kmip_rows::{Mark, object_tags};
 use kmip_wire::{OutOfMemory, Tree};
 use std::alloc::Global;
@@ -22,13 +22,12 @@ pub(crate) fn is_needed(mark: Mark) -> bool
 }
 
 /// Whether the item stands here under the tag.
-#[tactic(auto, using(crate::proofs::Views::tag_of_value))]
 fn is_here(tag: u32, item: &Item<'_>) -> bool
     ensures { payload.here_of tag (item_view item.now) ≡
         payload.kept result (item_view item.now).tree }
 {
     match item.path {
-        [] => item.tag.number() == tag,
+        [] => tag_of(item).number() == tag,
         _ => false,
     }
 }

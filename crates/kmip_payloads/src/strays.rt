@@ -6,7 +6,7 @@ ghost use Rattle.kmip_rows.specs.Structures.{structures};
 ghost use Rattle.kmip_payloads.specs.Items.{item_view};
 ghost use Rattle.kmip_payloads.specs.Strays as strays;
 
-use crate::item::Item;
+use crate::item::{Item, tag_of};
 use kmip_rows::{FieldRow, OperationRow, Place, object_tags, structure_row};
 
 /// Whether the items of a place stand under the tag.
@@ -52,11 +52,10 @@ fn has_place(fields: &[FieldRow], path: &[u32], tag: u32) -> bool
 }
 
 /// Whether a field of the operation takes the item.
-#[tactic(auto, using(crate::proofs::Views::tag_of_value))]
 fn is_taken(row: &OperationRow, item: &Item<'_>) -> bool
     ensures { result ≡ strays.is_taken (row_view row.now) (item_view item.now) }
 {
-    has_place(row.request, item.path, item.tag.number())
+    has_place(row.request, item.path, tag_of(item).number())
 }
 
 /// The first item that no field of the operation takes. `None` exactly where each has its place, so

@@ -11,7 +11,7 @@ use std::process::Abort;
 fn items_of(rt: &impl Abort, alloc: Global, given: &[Given]) -> Vec<Item<'static>> {
     let mut items = Vec::new(alloc);
     for given in given {
-        items.push(item_of(rt, given)).expect(rt, "memory");
+        items.push(item_of(given)).expect(rt, "memory");
     }
     items
 }
@@ -144,7 +144,7 @@ fn strays_are_told(rt: HostRuntime) {
         let items = items_of(&rt, rt.alloc(), *given);
         let row = row_of(&rt, *operation);
         let found = first_stray(row, items.as_slice());
-        let told = found.map(|item| (item.tag.number(), item.path.len()));
+        let told = found.map(|item| (item.tag, item.path.len()));
         assert!(rt; told == *expected, "{name}");
     }
 }

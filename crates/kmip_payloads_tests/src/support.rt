@@ -103,10 +103,10 @@ pub(crate) fn has_bytes(
 }
 
 /// The item of a table.
-pub(crate) fn item_of(rt: &impl Abort, given: &Given) -> Item<'static> {
+pub(crate) fn item_of(given: &Given) -> Item<'static> {
     Item {
         path: given.path,
-        tag: Tag::new(given.tag).expect(rt, "a tag"),
+        tag: given.tag,
         value: Value::Scalar(given.value),
     }
 }
@@ -121,7 +121,7 @@ pub(crate) fn is_written(rt: &impl Abort, alloc: Global, row: &Row) {
     }
     let mut items = Vec::new(alloc);
     for given in row.items {
-        items.push(item_of(rt, given)).expect(rt, "memory");
+        items.push(item_of(given)).expect(rt, "memory");
     }
     for (attribute, tree) in row.attributes.iter().zip(&trees) {
         items

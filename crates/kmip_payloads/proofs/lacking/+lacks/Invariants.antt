@@ -3,7 +3,7 @@ use Rattle.std.specs.List.{flat_map}
 use Rattle.kmip_rows.specs.Rows.{field_view}
 use Rattle.kmip_payloads.specs.Items.{item_view}
 use Rattle.kmip_payloads.specs.Lacks.{all_lacks, field_lacks, tag_lacks}
-use Rattle.kmip_payloads.proofs.lacks.+lacks.Given as goal
+use Rattle.kmip_payloads.proofs.lacking.+lacks.Given as goal
 
 abbrev pub decreases-push_all_lacks : goal.decreases-push_all_lacks
 decreases-push_all_lacks l = 5 * l.level

@@ -1,5 +1,5 @@
 //! The fields that a payload needs and that no item gives.
-ghost use Rattle.std.specs.Prelude.{◌≡◌, ◌++◌, map, flat_map, IfOk, OnOk, Some};
+ghost use Rattle.std.specs.Prelude.{◌≡◌, ◌++◌, false, map, flat_map, IfOk, OnOk, Some};
 ghost use Rattle.kmip_rows.specs.Rows.{row_view, field_view, structure_view};
 ghost use Rattle.kmip_rows.specs.Structures.{objects};
 ghost use Rattle.kmip_payloads.specs.Items.{item_view};
