@@ -1,0 +1,6 @@
+pub mod Views
+pub mod Steps
+pub mod Levels
+pub mod Tags
+pub mod Members
+pub mod Stands

@@ -1,0 +1,36 @@
+-- What the laws say.
+use Rattle.std.specs.Prelude.{ℕ, zero, suc, Bool, true, List, [], ◌∷◌, Contains, Option, Some, None}
+use Rattle.std.specs.List.{list_all}
+use Rattle.kmip_enums.specs.declared.operation.Operation.{Operation}
+use Rattle.kmip_wire.specs.Tree.{Tree, structure, trees_of}
+use Rattle.kmip_rows.specs.declared.rows.Place.{Place}
+use Rattle.kmip_rows.specs.declared.rows.Place.TheVariants.{Tag, Object}
+use Rattle.kmip_rows.specs.Rows.{Field, Row, structure_in}
+use Rattle.kmip_rows.specs.Operations.{row_of}
+use Rattle.kmip_rows.specs.Structures.{structures, objects}
+use Rattle.kmip_payloads.specs.Payload.{are_none, LEVELS}
+use Rattle.kmip_payloads.specs.Strays.{fields_of}
+
+-- the tags that the items of a place stand under
+abbrev pub tags_of : Place → List ℕ
+tags_of (Tag tag) = tag ∷ []
+tags_of Object = objects
+
+-- whether the structures of fields have at most so many levels
+unfoldable pub has_levels : ℕ → List Field → Bool
+has_levels zero fields = are_none fields
+has_levels (suc level) fields =
+    list_all (λ field. list_all
+    (λ tag. has_levels level (fields_of (structure_in structures tag))) (tags_of field.place)) fields
+
+-- whether the walk goes through all levels of an operation's payload
+abbrev pub are_all_levels : Option Row → Bool
+are_all_levels None = true
+are_all_levels (Some row) = has_levels LEVELS row.request
+
+-- a tree stands among trees in the structures of the path
+abbrev pub StandsAt : List ℕ → Tree → List Tree → Type 0
+StandsAt [] tree trees = Contains trees tree
+StandsAt (outer ∷ path) tree trees =
+    (inner : List Tree) × Contains trees (structure outer (trees_of inner))
+    × StandsAt path tree inner

@@ -1,0 +1,5 @@
+pub mod Items
+pub mod Payload
+pub mod Lacks
+pub mod Strays
+pub mod Laws

@@ -1,0 +1,28 @@
+//! Laws over the definitions, each the contract of a function that does nothing.
+ghost use Rattle.std.specs.Prelude.{◌≡◌, ℕ, ◌+◌, List, Contains, None, true};
+ghost use Rattle.std.specs.List.{list_all};
+ghost use Rattle.kmip_enums.specs.Operations.{operation_variants};
+ghost use Rattle.kmip_rows.specs.Rows.{Row};
+ghost use Rattle.kmip_rows.specs.Operations.{row_of};
+ghost use Rattle.kmip_payloads.specs.Items.{Item};
+ghost use Rattle.kmip_payloads.specs.Payload.{build, LEVELS};
+ghost use Rattle.kmip_payloads.specs.Strays.{first_stray};
+ghost use Rattle.kmip_payloads.specs.Laws.{has_levels, are_all_levels, StandsAt};
+
+/// The payload of no operation has more levels than those that the walk goes through; and where
+/// that is so, a walk through more levels gives the same.
+pub fn levels_suffice()
+    ensures operations { list_all (λ operation. are_all_levels (row_of operation))
+        operation_variants ≡ true }
+    ensures same { (row : Row) → (items : List Item) → (more : ℕ) →
+        has_levels LEVELS row.request ≡ true →
+        build (LEVELS + more) row.request items ≡ build LEVELS row.request items }
+{}
+
+/// Where no item is a stray, each stands in the payload, in the structures of its path.
+pub fn no_item_is_lost()
+    ensures { (row : Row) → (items : List Item) → (item : Item) →
+        has_levels LEVELS row.request ≡ true →
+        first_stray row items ≡ None → Contains items item →
+        StandsAt item.path item.tree (build LEVELS row.request items) }
+{}

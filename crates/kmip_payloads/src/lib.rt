@@ -1,0 +1,16 @@
+//! The payload of a request from items: the fields of its operation in their order, as the rows of
+//! `kmip_rows` have them.
+#![tactic(auto)]
+
+mod build;
+mod item;
+mod lacking;
+mod laws;
+mod places;
+mod strays;
+
+pub use build::payload_of;
+pub use item::{Item, Scalar, Value};
+pub use lacking::lacks;
+pub use laws::{levels_suffice, no_item_is_lost};
+pub use strays::first_stray;
