@@ -4,3 +4,4 @@ pub mod Levels
 pub mod Tags
 pub mod Members
 pub mod Stands
+pub mod Spots

@@ -3,11 +3,13 @@ use Rattle.std.specs.Prelude.{ℕ, zero, suc, Bool, true, List, [], ◌∷◌, C
 use Rattle.std.specs.List.{list_all}
 use Rattle.kmip_enums.specs.declared.operation.Operation.{Operation}
 use Rattle.kmip_wire.specs.Tree.{Tree, structure, trees_of}
+use Rattle.kmip_wire.specs.Parts.{tag_of}
 use Rattle.kmip_rows.specs.declared.rows.Place.{Place}
 use Rattle.kmip_rows.specs.declared.rows.Place.TheVariants.{Tag, Object}
 use Rattle.kmip_rows.specs.Rows.{Field, Row, structure_in}
 use Rattle.kmip_rows.specs.Operations.{row_of}
 use Rattle.kmip_rows.specs.Structures.{structures, objects}
+use Rattle.kmip_payloads.specs.Items.{Item}
 use Rattle.kmip_payloads.specs.Payload.{are_none, LEVELS}
 use Rattle.kmip_payloads.specs.Strays.{fields_of}
 
@@ -34,3 +36,11 @@ StandsAt [] tree trees = Contains trees tree
 StandsAt (outer ∷ path) tree trees =
     (inner : List Tree) × Contains trees (structure outer (trees_of inner))
     × StandsAt path tree inner
+
+-- where an item stands: all of it but its value
+pub record Spot : Type 0 where
+  pub path : List ℕ
+  pub tag : ℕ
+
+abbrev pub spot_of : Item → Spot
+spot_of item = record { path = item.path; tag = tag_of item.tree }

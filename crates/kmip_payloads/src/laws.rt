@@ -1,13 +1,14 @@
 //! Laws over the definitions, each the contract of a function that does nothing.
-ghost use Rattle.std.specs.Prelude.{◌≡◌, ℕ, ◌+◌, List, Contains, None, true};
+ghost use Rattle.std.specs.Prelude.{◌≡◌, ℕ, ◌+◌, List, Contains, None, map, true};
 ghost use Rattle.std.specs.List.{list_all};
 ghost use Rattle.kmip_enums.specs.Operations.{operation_variants};
 ghost use Rattle.kmip_rows.specs.Rows.{Row};
 ghost use Rattle.kmip_rows.specs.Operations.{row_of};
 ghost use Rattle.kmip_payloads.specs.Items.{Item};
 ghost use Rattle.kmip_payloads.specs.Payload.{build, LEVELS};
+ghost use Rattle.kmip_payloads.specs.Refusals.{refusal};
 ghost use Rattle.kmip_payloads.specs.Strays.{first_stray};
-ghost use Rattle.kmip_payloads.specs.Laws.{has_levels, are_all_levels, StandsAt};
+ghost use Rattle.kmip_payloads.specs.Laws.{has_levels, are_all_levels, spot_of, StandsAt};
 
 /// The payload of no operation has more levels than those that the walk goes through; and where
 /// that is so, a walk through more levels gives the same.
@@ -25,4 +26,10 @@ pub fn no_item_is_lost()
         has_levels LEVELS row.request ≡ true →
         first_stray row items ≡ None → Contains items item →
         StandsAt item.path item.tree (build LEVELS row.request items) }
+{}
+
+/// Why items are refused depends on where they stand, and on nothing of their values.
+pub fn refusals_tell_no_value()
+    ensures { (row : Row) → (items : List Item) → (others : List Item) →
+        map spot_of items ≡ map spot_of others → refusal row items ≡ refusal row others }
 {}

@@ -7,10 +7,12 @@ mod item;
 mod lacking;
 mod laws;
 mod places;
+mod refusal;
 mod strays;
 
 pub use build::payload_of;
 pub use item::{Item, Scalar, Value};
 pub use lacking::lacks;
-pub use laws::{levels_suffice, no_item_is_lost};
+pub use laws::{levels_suffice, no_item_is_lost, refusals_tell_no_value};
+pub use refusal::{Refusal, push_refusal, refusal};
 pub use strays::first_stray;
