@@ -30,12 +30,16 @@ pub in_right : {A : Type 0} (xs ys : List A) (x : A) → IsIn x ys → IsIn x (x
 in_right [] ys x h = h
 in_right (z ∷ zs) ys x h = inr (in_right zs ys x h)
 
+moved :
+    {A B : Type 0} (f : A → List B) (x z : A) (y : B) → x ≡ z → IsIn y (f x) → IsIn y (f z)
+moved {A} {B} f x z y e g = let P : A → Type 0 = λ w. IsIn y (f w) in subst P e g
+
 pub in_flat_map :
     {A B : Type 0} (f : A → List B) (xs : List A) (x : A) (y : B)
     → IsIn x xs → IsIn y (f x) → IsIn y (flat_map f xs)
 in_flat_map f [] x y h g = absurd h
 in_flat_map f (z ∷ zs) x y (inl e) g =
-    in_left (f z) (flat_map f zs) y (let P = λ w. IsIn y (f w) in subst P e g)
+    in_left (f z) (flat_map f zs) y (moved f x z y e g)
 in_flat_map f (z ∷ zs) x y (inr h) g =
     in_right (f z) (flat_map f zs) y (in_flat_map f zs x y h g)
 

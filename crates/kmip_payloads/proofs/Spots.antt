@@ -13,7 +13,7 @@ use Rattle.kmip_payloads.specs.Payload.{Walk, kept, here_of, below_of, here, bel
 use Rattle.kmip_payloads.specs.Lacks.{structure_lacks, tag_lacks, is_free, no_object, place_lacks, field_lacks, all_lacks, lacks}
 use Rattle.kmip_payloads.specs.Strays.{has_place, is_taken, first_stray}
 use Rattle.kmip_payloads.specs.declared.refusal.Refusal.TheVariants.{Stray, Lacks}
-use Rattle.kmip_payloads.specs.Refusals.{stray, refusal}
+use Rattle.kmip_payloads.specs.Refusals.{stray, refusal_of}
 use Rattle.kmip_payloads.specs.Laws.{Spot, spot_of}
 use Rattle.kmip_payloads.proofs.Views.{none_kept}
 
@@ -161,7 +161,7 @@ stray_same row (x ∷ xs) (y ∷ ys) e =
 
 pub refusal_same :
     (row : Row) (items others : List Item) → map spot_of items ≡ map spot_of others
-    → refusal row items ≡ refusal row others
+    → refusal_of row items ≡ refusal_of row others
 refusal_same row items others e =
     let f = stray_same row items others e in
     let g = lacks_same LEVELS row.request items others e in

@@ -1,6 +1,6 @@
 -- What the laws say.
-use Rattle.std.specs.Prelude.{ℕ, zero, suc, Bool, true, List, [], ◌∷◌, Contains, Option, Some, None}
-use Rattle.std.specs.List.{list_all}
+use Rattle.std.specs.Prelude.{◌≡◌, ℕ, zero, suc, ◌==◌, Bool, true, ◌||◌, not, List, [], ◌∷◌, flat_map, Contains, Option, Some, None}
+use Rattle.std.specs.List.{filter, list_all}
 use Rattle.kmip_enums.specs.declared.operation.Operation.{Operation}
 use Rattle.kmip_wire.specs.Tree.{Tree, structure, trees_of}
 use Rattle.kmip_wire.specs.Parts.{tag_of}
@@ -10,7 +10,7 @@ use Rattle.kmip_rows.specs.Rows.{Field, Row, structure_in}
 use Rattle.kmip_rows.specs.Operations.{row_of}
 use Rattle.kmip_rows.specs.Structures.{structures, objects}
 use Rattle.kmip_payloads.specs.Items.{Item}
-use Rattle.kmip_payloads.specs.Payload.{are_none, LEVELS}
+use Rattle.kmip_payloads.specs.Payload.{are_none, is_needed, LEVELS}
 use Rattle.kmip_payloads.specs.Strays.{fields_of}
 
 -- the tags that the items of a place stand under
@@ -44,3 +44,19 @@ pub record Spot : Type 0 where
 
 abbrev pub spot_of : Item → Spot
 spot_of item = record { path = item.path; tag = tag_of item.tree }
+
+-- the trees of a field among trees
+abbrev pub under : List Tree → ℕ → List Tree
+under trees tag = filter (λ tree. tag_of tree == tag) trees
+
+abbrev pub of_field : List Tree → Field → List Tree
+of_field trees field = flat_map (under trees) (tags_of field.place)
+
+-- trees that stand in the order of fields, each under a tag of its field
+abbrev pub IsInOrder : List Field → List Tree → Type 0
+IsInOrder fields trees = flat_map (of_field trees) fields ≡ trees
+
+-- whether each field that is needed has a tree
+abbrev pub has_needed : List Field → List Tree → Bool
+has_needed fields trees = list_all
+    (λ field. not (is_needed field.mark) || not (are_none (of_field trees field))) fields

@@ -19,8 +19,8 @@ abbrev pub stray : Item → Refusal
 stray item = Stray (last_or None item.path) (tag_of item.tree)
 
 -- an item that no field takes comes before a field that no item gives
-abbrev pub refusal : Row → List Item → Option Refusal
-refusal row items = elim (option_map stray (first_stray row items)) [
+abbrev pub refusal_of : Row → List Item → Option Refusal
+refusal_of row items = elim (option_map stray (first_stray row items)) [
   | Some why ↦ Some why
   | None ↦ option_map (λ place. Lacks place) (slice_get (lacks row items) 0)
 ]
@@ -38,8 +38,14 @@ abbrev pub within_words : Option ℕ → List ℕ
 within_words None = codes "the payload"
 within_words (Some outer) = tag_words outer
 
--- `Data has no place in Key Wrapping Specification`, `Derivation Method is missing`
+-- `Data has no place in Key Wrapping Specification`
+abbrev pub stray_text : Option ℕ → ℕ → List ℕ
+stray_text within tag = tag_words tag ++ (codes " has no place in " ++ within_words within)
+
+-- `Derivation Method is missing`
+abbrev pub lack_text : Place → List ℕ
+lack_text place = place_words place ++ codes " is missing"
+
 abbrev pub refusal_text : Refusal → List ℕ
-refusal_text (Stray within tag) =
-    tag_words tag ++ (codes " has no place in " ++ within_words within)
-refusal_text (Lacks place) = place_words place ++ codes " is missing"
+refusal_text (Stray within tag) = stray_text within tag
+refusal_text (Lacks place) = lack_text place

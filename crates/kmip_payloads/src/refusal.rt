@@ -40,13 +40,13 @@ fn innermost(outer: Option<u32>, path: &[u32]) -> Option<u32>
 
 /// Why the items are no payload of the operation: an item that no field takes, or else a field that
 /// is needed and that no item gives. `None` exactly where they are one.
-pub fn refusal(
+pub fn refusal_of(
     alloc: Global,
     row: &OperationRow,
     items: &[Item<'_>],
 ) -> Result<Option<Refusal>, OutOfMemory>
     ensures { IfOk result (λ why. why ≡
-        refusals.refusal (row_view row.now) (map item_view items.now)) }
+        refusals.refusal_of (row_view row.now) (map item_view items.now)) }
 {
     match first_stray(row, items) {
         Some(item) => Ok(Some(Refusal::Stray {
@@ -100,19 +100,31 @@ fn within_words(within: Option<u32>) -> &'static str
     }
 }
 
+/// Appends that an item has no place.
+#[tactic(auto, using(std::proofs::lemmas::List::append_assoc))]
+fn push_stray(out: &mut Text, within: Option<u32>, tag: u32) -> Result<(), OutOfMemory>
+    ensures { OnOk result (out.new ≡ out.old ++ refusals.stray_text within tag) }
+{
+    out.push_str(tag_words(tag))?;
+    out.push_str(" has no place in ")?;
+    out.push_str(within_words(within))
+}
+
+/// Appends that a field is missing.
+#[tactic(auto, using(std::proofs::lemmas::List::append_assoc))]
+fn push_lack(out: &mut Text, place: Place) -> Result<(), OutOfMemory>
+    ensures { OnOk result (out.new ≡ out.old ++ refusals.lack_text place) }
+{
+    out.push_str(place_words(place))?;
+    out.push_str(" is missing")
+}
+
 /// Appends why items are refused, in words: the names of tags, and nothing of a value.
 pub fn push_refusal(out: &mut Text, refusal: Refusal) -> Result<(), OutOfMemory>
     ensures { OnOk result (out.new ≡ out.old ++ refusals.refusal_text refusal) }
 {
     match refusal {
-        Refusal::Stray { within, tag } => {
-            out.push_str(tag_words(tag))?;
-            out.push_str(" has no place in ")?;
-            out.push_str(within_words(within))
-        }
-        Refusal::Lacks(place) => {
-            out.push_str(place_words(place))?;
-            out.push_str(" is missing")
-        }
+        Refusal::Stray { within, tag } => push_stray(out, within, tag),
+        Refusal::Lacks(place) => push_lack(out, place),
     }
 }

@@ -1,5 +1,6 @@
 //! The items that no field takes.
-ghost use Rattle.std.specs.Prelude.{◌≡◌, map, option_map};
+ghost use Rattle.std.specs.Prelude.{◌≡◌, ◌==◌, map, option_map};
+ghost use Rattle.std.specs.List.{list_any};
 ghost use Rattle.kmip_rows.specs.Rows.{row_view, field_view};
 ghost use Rattle.kmip_rows.specs.Rows as rows;
 ghost use Rattle.kmip_rows.specs.Structures.{structures};
@@ -9,13 +10,23 @@ ghost use Rattle.kmip_payloads.specs.Strays as strays;
 use crate::item::{Item, tag_of};
 use kmip_rows::{FieldRow, OperationRow, Place, object_tags, structure_row};
 
+/// Whether the tag is one of these.
+fn is_one_of(tags: &[u32], tag: u32) -> bool
+    ensures { result ≡ list_any (λ own. own == tag) tags.now }
+{
+    match tags {
+        [] => false,
+        [first, rest @ ..] => *first == tag || is_one_of(rest, tag),
+    }
+}
+
 /// Whether the items of a place stand under the tag.
 fn is_under(tag: u32, place: Place) -> bool
     ensures { result ≡ strays.is_under tag place }
 {
     match place {
         Place::Tag(own) => own == tag,
-        Place::Object => object_tags().iter().any(|own| *own == tag),
+        Place::Object => is_one_of(object_tags(), tag),
     }
 }
 

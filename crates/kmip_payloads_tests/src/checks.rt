@@ -1,9 +1,10 @@
-//! What items lack, and which have no place.
+//! What items lack, which have no place, and what is told of it.
 use crate::support::{Given, item_of, row_of};
 use kmip_enums::Operation;
-use kmip_payloads::{Item, Scalar, first_stray, lacks};
+use kmip_payloads::{Item, Scalar, first_stray, lacks, push_refusal, refusal_of};
 use kmip_rows::Place;
 use kmip_tags::tags;
+use kmip_wire::Text;
 use std::alloc::Global;
 use std::process::Abort;
 
@@ -31,6 +32,23 @@ macro_rules! item {
 macro_rules! identifier {
     ($($outer:ident),*) => {
         item!([$($outer),*] UNIQUE_IDENTIFIER, Scalar::TextString("7"))
+    };
+}
+
+/// An item of any tag, whose value is a password.
+macro_rules! password {
+    ([] $tag:ident) => {
+        item!([] $tag, Scalar::TextString("hunter2"))
+    };
+    ([$($outer:ident),+] $tag:ident) => {
+        item!([$($outer),+] $tag, Scalar::TextString("hunter2"))
+    };
+    ([$outer:literal] $tag:literal) => {
+        Given {
+            path: &[$outer],
+            tag: $tag,
+            value: Scalar::TextString("hunter2"),
+        }
     };
 }
 
@@ -146,5 +164,57 @@ fn strays_are_told(rt: HostRuntime) {
         let found = first_stray(row, items.as_slice());
         let told = found.map(|item| (item.tag, item.path.len()));
         assert!(rt; told == *expected, "{name}");
+    }
+}
+
+/// Items, and the text of why they are refused. The value of each is a password.
+const REFUSALS: &[(&str, Operation, &[Given], &str)] = &[
+    ("a payload", Operation::Get, &[], ""),
+    (
+        "a field of another operation",
+        Operation::Get,
+        &[password!([] DATA)],
+        "Data has no place in the payload",
+    ),
+    (
+        "a field of another structure",
+        Operation::Get,
+        &[password!([KEY_WRAPPING_SPECIFICATION, ENCRYPTION_KEY_INFORMATION] DATA)],
+        "Data has no place in Encryption Key Information",
+    ),
+    (
+        "a stray before what is missing",
+        Operation::Activate,
+        &[password!([0x142_0094] 0x54_0002)],
+        "an unknown tag has no place in an unknown tag",
+    ),
+    (
+        "a field that is missing",
+        Operation::Register,
+        &[password!([] OBJECT_TYPE)],
+        "an object is missing",
+    ),
+    (
+        "a field of a structure that is missing",
+        Operation::Register,
+        &[
+            password!([] OBJECT_TYPE),
+            password!([SECRET_DATA, KEY_BLOCK, KEY_VALUE] KEY_MATERIAL),
+        ],
+        "Secret Data Type is missing",
+    ),
+];
+
+#[test]
+fn refusals_are_told(rt: HostRuntime) {
+    for (name, operation, given, expected) in REFUSALS {
+        let items = items_of(&rt, rt.alloc(), *given);
+        let row = row_of(&rt, *operation);
+        let found = refusal_of(rt.alloc(), row, items.as_slice()).expect(&rt, *name);
+        let mut text = Text::new(rt.alloc());
+        if let Some(why) = found {
+            push_refusal(&mut text, why).expect(&rt, *name);
+        }
+        assert!(rt; text.as_str() == *expected, "{name}");
     }
 }
