@@ -1,10 +1,8 @@
 -- The walks over fields, a level down.
-use Rattle.std.proofs.Common.{◌≡◌, ℕ, zero, suc, ◌-◌, List, [], refl, ap, sym, arith}
+use Rattle.std.proofs.Common.{◌≡◌, ℕ, zero, suc, ◌-◌, List, [], refl, ap, arith}
 use Rattle.std.specs.List.{flat_map}
 use Rattle.std.proofs.Math.Nat.{suc-ne-zero}
-use Rattle.kmip_wire.specs.Tree.{Tree}
 use Rattle.kmip_rows.specs.Rows.{Field}
-use Rattle.kmip_rows.specs.declared.rows.Place.{Place}
 use Rattle.kmip_payloads.specs.Items.{Item}
 use Rattle.kmip_payloads.specs.Payload.{build, field_trees}
 use Rattle.kmip_payloads.specs.Lacks.{all_lacks, field_lacks}

@@ -1,5 +1,5 @@
 -- What items lack, and which are strays, by where they stand alone.
-use Rattle.std.proofs.Common.{◌≡◌, ℕ, zero, suc, Bool, true, false, ◌==◌, ◌&&◌, ◌||◌, not, cond, List, [], ◌∷◌, ◌++◌, map, Option, Some, None, option_map, slice_get, find, refl, sym, ap, ◌∙◌}
+use Rattle.std.proofs.Common.{◌≡◌, ℕ, zero, suc, Bool, true, false, ◌==◌, ◌&&◌, ◌||◌, not, cond, List, [], ◌∷◌, ◌++◌, map, Option, Some, None, option_map, slice_get, refl, sym, ap, ◌∙◌}
 use Rattle.std.specs.List.{flat_map, list_all, last_or}
 use Rattle.std.proofs.lemmas.Bool.{false≢true}
 use Rattle.kmip_wire.specs.Tree.{Tree}
@@ -10,7 +10,7 @@ use Rattle.kmip_rows.specs.Rows.{Field, Structure, Row, structure_in}
 use Rattle.kmip_rows.specs.Structures.{structures, objects}
 use Rattle.kmip_payloads.specs.Items.{Item, item_at}
 use Rattle.kmip_payloads.specs.Payload.{Walk, kept, here_of, below_of, here, below, are_none, is_needed, LEVELS}
-use Rattle.kmip_payloads.specs.Lacks.{structure_lacks, tag_lacks, is_free, no_object, place_lacks, field_lacks, all_lacks, lacks}
+use Rattle.kmip_payloads.specs.Lacks.{structure_lacks, tag_lacks, place_lacks, all_lacks}
 use Rattle.kmip_payloads.specs.Strays.{has_place, is_taken, first_stray}
 use Rattle.kmip_payloads.specs.declared.refusal.Refusal.TheVariants.{Stray, Lacks}
 use Rattle.kmip_payloads.specs.Refusals.{stray, refusal_of}

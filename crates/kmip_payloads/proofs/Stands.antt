@@ -1,6 +1,6 @@
 -- An item that a field takes stands in the payload, and no level more gives another payload.
 use Rattle.std.proofs.Common.{◌≡◌, ℕ, zero, suc, ◌+◌, ◌≤◌, Bool, true, false, ◌==◌, ◌&&◌, ◌||◌, not, cond, List, [], ◌∷◌, ◌++◌, Option, Some, None, Contains, find, inl, inr, refl, sym, ap, ◌∙◌, subst, arith, eq-eqb, eqb-true}
-use Rattle.std.specs.List.{flat_map, list_any, list_all}
+use Rattle.std.specs.List.{flat_map, list_all}
 use Rattle.std.proofs.lemmas.Bool.{false≢true}
 use Rattle.kmip_wire.specs.Tree.{Tree, structure, trees_of}
 use Rattle.kmip_wire.specs.Parts.{tag_of}
@@ -76,7 +76,8 @@ in_structure :
     → IsIn (structure tag (trees_of (inside row.fields (below tag items))))
     (tag_trees inside needed items tag)
 in_structure inside needed items tag row e some =
-    let own : row.tag ≡ tag = eqb-true row.tag tag (found_in {A = Structure} (λ first. first.tag == tag) structures row e).1 in
+    let own : row.tag ≡ tag = eqb-true row.tag tag
+    (found_in {A = Structure} (λ first. first.tag == tag) structures row e).1 in
     let its : Tree = structure tag (trees_of (inside row.fields (below tag items))) in
     let P : Bool → Type 0 = λ none. IsIn its (here tag items ++
     cond (not none || (needed && are_none (here tag items)))
@@ -213,9 +214,11 @@ same_tags :
     → flat_map (tag_trees more needed items) tags ≡ flat_map (tag_trees less needed items) tags
 same_tags more less items needed [] same = refl
 same_tags more less items needed (tag ∷ tags) same =
-    let first = same_structure more less (below tag items) (structure_in structures tag) (same tag (inl refl) (below tag items)) in
+    let first = same_structure more less (below tag items) (structure_in structures tag)
+    (same tag (inl refl) (below tag items)) in
     let rest = same_tags more less items needed tags (λ other i. same other (inr i)) in
-    ap (λ (its : List Tree). (here tag items ++ cond (stands needed tag items) its []) ++ flat_map (tag_trees more needed items) tags) first
+    ap (λ (its : List Tree).
+    (here tag items ++ cond (stands needed tag items) its []) ++ flat_map (tag_trees more needed items) tags) first
     ∙ ap (λ (its : List Tree). tag_trees less needed items tag ++ its) rest
 
 same_place :
@@ -259,5 +262,6 @@ same_levels (suc level) (suc more) fields items l le =
     (λ field f tag t inner.
     let p : ℕ → Bool = λ k. has_levels level (fields_of (structure_in structures k)) in
     same_levels level more (fields_of (structure_in structures tag)) inner
-    (all_in p (tags_of field.place) tag (all_in {A = Field} (λ field. list_all p (tags_of field.place)) fields field l f) t)
+    (all_in p (tags_of field.place) tag
+    (all_in {A = Field} (λ field. list_all p (tags_of field.place)) fields field l f) t)
     (omega arith))

@@ -1,13 +1,13 @@
 -- The payload of whole trees.
-use Rattle.std.proofs.Common.{◌≡◌, ℕ, suc, Bool, true, false, ◌==◌, ◌&&◌, ◌||◌, not, cond, List, [], ◌∷◌, ◌++◌, map, Option, refl, ap, ◌∙◌, sym, append-nil}
-use Rattle.std.specs.List.{flat_map, filter, list_all}
+use Rattle.std.proofs.Common.{◌≡◌, ℕ, suc, Bool, true, false, ◌==◌, ◌&&◌, ◌||◌, not, cond, List, [], ◌∷◌, ◌++◌, map, refl, ap, ◌∙◌, sym, append-nil}
+use Rattle.std.specs.List.{flat_map}
 use Rattle.std.proofs.lemmas.Bool.{false≢true}
 use Rattle.kmip_tags.specs.Tags as tags
 use Rattle.kmip_wire.specs.Tree.{Tree, structure, trees_of}
 use Rattle.kmip_wire.specs.Parts.{tag_of}
 use Rattle.kmip_rows.specs.declared.rows.Place.{Place}
 use Rattle.kmip_rows.specs.declared.rows.Place.TheVariants.{Tag, Object}
-use Rattle.kmip_rows.specs.Rows.{Field, Structure, Row, structure_in}
+use Rattle.kmip_rows.specs.Rows.{Field, Row, structure_in}
 use Rattle.kmip_rows.specs.Structures.{structures, objects}
 use Rattle.kmip_payloads.specs.Items.{Item, item_at}
 use Rattle.kmip_payloads.specs.Payload.{Walk, kept, here, below, are_none, is_needed, structure_of, tag_trees, place_trees, field_trees, build, payload}
@@ -75,7 +75,8 @@ fields_whole :
 fields_whole inside [] trees h = refl
 fields_whole inside (field ∷ fields) trees h =
     let one : Bool = not (is_needed field.mark) || not (are_none (of_field trees field)) in
-    let first = place_whole inside (is_needed field.mark) field.place trees (and_left one (has_needed fields trees) h) in
+    let first = place_whole inside (is_needed field.mark) field.place trees
+    (and_left one (has_needed fields trees) h) in
     let rest = fields_whole inside fields trees (and_right one (has_needed fields trees) h) in
     λ i. first i ++ rest i
 

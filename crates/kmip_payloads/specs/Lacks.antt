@@ -1,5 +1,5 @@
 -- The fields that a payload needs and that no item gives.
-use Rattle.std.specs.Prelude.{ℕ, zero, suc, ◌&&◌, Bool, false, List, [], ◌∷◌, ◌++◌, flat_map, Option, Some, None, if◌then◌else◌}
+use Rattle.std.specs.Prelude.{ℕ, zero, suc, ◌&&◌, Bool, false, List, [], ◌∷◌, flat_map, Option, Some, None, if◌then◌else◌}
 use Rattle.std.specs.List.{list_all}
 use Rattle.kmip_rows.specs.declared.rows.Place.{Place}
 use Rattle.kmip_rows.specs.declared.rows.Place.TheVariants.{Tag, Object}

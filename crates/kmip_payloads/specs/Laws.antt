@@ -1,13 +1,11 @@
 -- What the laws say.
 use Rattle.std.specs.Prelude.{◌≡◌, ℕ, zero, suc, ◌==◌, Bool, true, ◌||◌, not, List, [], ◌∷◌, flat_map, Contains, Option, Some, None}
 use Rattle.std.specs.List.{filter, list_all}
-use Rattle.kmip_enums.specs.declared.operation.Operation.{Operation}
 use Rattle.kmip_wire.specs.Tree.{Tree, structure, trees_of}
 use Rattle.kmip_wire.specs.Parts.{tag_of}
 use Rattle.kmip_rows.specs.declared.rows.Place.{Place}
 use Rattle.kmip_rows.specs.declared.rows.Place.TheVariants.{Tag, Object}
 use Rattle.kmip_rows.specs.Rows.{Field, Row, structure_in}
-use Rattle.kmip_rows.specs.Operations.{row_of}
 use Rattle.kmip_rows.specs.Structures.{structures, objects}
 use Rattle.kmip_payloads.specs.Items.{Item}
 use Rattle.kmip_payloads.specs.Payload.{are_none, is_needed, LEVELS}
@@ -23,7 +21,8 @@ unfoldable pub has_levels : ℕ → List Field → Bool
 has_levels zero fields = are_none fields
 has_levels (suc level) fields =
     list_all (λ field. list_all
-    (λ tag. has_levels level (fields_of (structure_in structures tag))) (tags_of field.place)) fields
+    (λ tag. has_levels level (fields_of (structure_in structures tag))) (tags_of field.place))
+    fields
 
 -- whether the walk goes through all levels of an operation's payload
 abbrev pub are_all_levels : Option Row → Bool

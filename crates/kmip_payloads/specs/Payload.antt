@@ -82,8 +82,8 @@ build zero fields items = []
 build (suc level) fields items = flat_map (field_trees (build level) items) fields
 
 -- the fields of a payload, and in turn those of Private Key, Key Block (KMIP 1.0, 2.1.3), Key
--- Wrapping Data, Encryption Key Information (2.1.5) and Cryptographic Parameters (3.6): no operation
--- has more levels
+-- Wrapping Data, Encryption Key Information (2.1.5) and Cryptographic Parameters (3.6): no
+-- operation has more levels
 abbrev pub LEVELS : ℕ
 LEVELS = 6
 

@@ -1,4 +1,4 @@
-use Rattle.std.proofs.Common.{◌≡◌, ◌-◌, ◌++◌, List, map, take, sym, ap, ◌∙◌, append-nil, arith}
+use Rattle.std.proofs.Common.{◌-◌, ◌++◌, List, map, sym, ap, ◌∙◌, append-nil, arith}
 use Rattle.std.specs.List.{flat_map}
 use Rattle.std.proofs.lemmas.List.{take_all}
 use Rattle.kmip_rows.specs.declared.rows.Place.{Place}
@@ -23,7 +23,8 @@ push_all_lacks-returns t c =
     let old : List Place = c.args.out.now.items in
     let rows : List FieldRow = c.args.fields.now in
     c.loop-field.invariant
-    ∙ ap (λ (its : List FieldRow). old ++ flat_map (field_lacks (all_lacks (c.args.level - 1)) items) (map field_view its))
+    ∙ ap (λ (its : List FieldRow).
+    old ++ flat_map (field_lacks (all_lacks (c.args.level - 1)) items) (map field_view its))
     (take_all c.loop-field.field-index rows (omega arith))
     ∙ ap (λ (its : List Place). old ++ its)
     (lacks_some c.args.level (map field_view rows) items (λ e. omega arith))

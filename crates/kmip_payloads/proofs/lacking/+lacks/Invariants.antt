@@ -28,4 +28,5 @@ invariant-push_object_lacks-loop-tag l =
 abbrev pub invariant-push_all_lacks-loop-field : goal.invariant-push_all_lacks-loop-field
 invariant-push_all_lacks-loop-field l =
     l.out.items ≡ l.initial.out.items ++
-    flat_map (field_lacks (all_lacks (l.level - 1)) (map item_view l.items)) (map field_view (take l.field-index l.fields))
+    flat_map (field_lacks (all_lacks (l.level - 1)) (map item_view l.items))
+    (map field_view (take l.field-index l.fields))
