@@ -128,6 +128,11 @@ proved() { # KIND CRATE FILE: a line for each crate
     fi
 }
 
+# Copies a program to where an older one may be running, which goes on with its own file.
+put() { # PROGRAM FILE
+    cp "$1" "$2.new" && mv -f "$2.new" "$2"
+}
+
 made() { # KIND CRATE FILE TEXT
     if is_made "$3"; then
         printf '%s .. is there, made before of the same files\n' "$4"
@@ -153,7 +158,7 @@ fi
 if [[ -z $program ]]; then
     made program kmip_call "$folder/kmip_call" 'kmip_call'
 elif [[ ! $program -ef $folder/kmip_call ]]; then
-    cp "$program" "$folder/kmip_call"
+    put "$program" "$folder/kmip_call"
 fi
 if [[ -n $encoder ]]; then made program kmip_ttlv "$folder/kmip_ttlv" 'kmip_ttlv'; fi
 
@@ -175,7 +180,7 @@ make_command() {
         cp -r "$top/clients/rust" "$top/clients/command" "$work/sources" &&
         (cd "$work/sources/command" &&
             LIBMETSUWAN_DIR=$folder CARGO_TARGET_DIR=$work/target cargo build --release ${words[@]+"${words[@]}"}) &&
-        cp "$work/target/release/kmip" "$folder/kmip" &&
+        put "$work/target/release/kmip" "$folder/kmip" &&
         mkdir -p "$folder/man" &&
         "$folder/kmip" __man "$folder/man"
 }

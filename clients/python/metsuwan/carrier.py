@@ -45,6 +45,7 @@ class Carrier(OfOneProcess):
         # The server of the connection, or the one that was tried last; and that which has said
         # that a call is pending.
         self._at = servers.all[0]
+        self._began = 0.0           # when its connection was opened, or the try of that began
         self._pending_at: Optional[Server] = None
         self._begin_time()
         self._wire = self._opened()
@@ -131,7 +132,7 @@ class Carrier(OfOneProcess):
         """The server at hand is not tried again in this call, and left out for a while."""
         self._tried.append(self._at)
         is_refusing = isinstance(error, CertificateRefused)
-        pause = self._at.has_failed(str(error), is_refusing)
+        pause = self._at.has_failed(str(error), is_refusing, self._began)
         self._add_reason(self._at, str(error))
         if self._are_several():
             LOG.warning('%s: %s: it is left out for %.1f s', self._server, KmipError(str(error)),
@@ -146,10 +147,12 @@ class Carrier(OfOneProcess):
             server = self._servers.next(self._tried)
             if server is None:
                 break
-            self._at = server
+            self._at, self._began = server, time.monotonic()
             try:
-                return Wire(server.host, server.port, self._context, self._name,
+                wire = Wire(server.host, server.port, self._context, self._name,
                             *self._share(CONNECT_SECONDS))
+                self._began = wire.since
+                return wire
             except OSError as error:
                 last = error
                 if isinstance(error, Cancelled):

@@ -3,6 +3,7 @@ left out for a while."""
 from __future__ import annotations
 
 import itertools
+import math
 import random
 import time
 from typing import Collection, Iterator, List, Optional, Sequence, Union
@@ -35,8 +36,12 @@ class Server:
         """The seconds for which it is still left out."""
         return max(self.out_until - time.monotonic(), 0)
 
-    def has_failed(self, why: str, is_refusing: bool) -> float:
-        """It has failed, and is left out for so many seconds."""
+    def has_failed(self, why: str, is_refusing: bool, began: float = math.inf) -> float:
+        """A connection of it has failed, or the try of one, that began at this time: it is left out
+        for so many seconds. All connections that a server had end with it, and that is one
+        failure: what began before the last one has failed with it."""
+        if self.failures > 0 and began < self.failed_at:
+            return self.out()
         pause: float = min(FIRST_PAUSE * 2 ** min(self.failures, 10), LAST_PAUSE)
         pause *= 1 + random.uniform(-VARIES, VARIES)
         now = time.monotonic()

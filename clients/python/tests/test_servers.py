@@ -105,6 +105,21 @@ class Order(unittest.TestCase):
         with mock.patch('random.uniform', side_effect=lambda low, high: high):
             self.assertEqual(server.has_failed('why', False), 72)
 
+    def test_all_connections_that_end_with_their_server_are_one_failure(self) -> None:
+        server = servers_of('a', None, None, 'first').all[0]
+        began = time.monotonic()
+        with mock.patch('random.uniform', return_value=0.0):
+            pauses = [server.has_failed('why', False, began) for _ in range(40)]
+            self.assertEqual(server.failures, 1)
+            self.assertEqual(pauses[0], 1)
+            self.assertTrue(all(0 < pause <= 1 for pause in pauses))
+            # One that began since then has failed by itself.
+            self.assertEqual(server.has_failed('why', False, time.monotonic()), 2)
+        # That of a server which has answered since then is a first one.
+        server.has_answered()
+        self.assertLessEqual(server.has_failed('why', False, began), 1.2)
+        self.assertEqual(server.failures, 1)
+
     def test_by_turns_each_connection_goes_to_the_next(self) -> None:
         servers = servers_of(None, None, 'a,b,c', 'turns')
         taken = [servers.next([]) for _ in range(6)]

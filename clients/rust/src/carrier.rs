@@ -48,7 +48,7 @@ impl<T> Uses<T> {
 pub(crate) struct Carrier<T> {
     /// None where a call lost it.
     pub(crate) stream: Option<T>,
-    /// When it was opened.
+    /// When it was opened, or the try of that began.
     opened_at: Instant,
     /// Whether a call is made on it, or has panicked.
     pub(crate) is_busy: bool,
@@ -205,7 +205,7 @@ impl<T> Carrier<T> {
     fn server_fails(&mut self, call: Begun<'_>, error: &Error) {
         let why = error.cause();
         self.tried[self.at] = true;
-        let pause = self.servers.failed(self.at, error.is_refusal(), &why);
+        let pause = self.servers.failed(self.at, self.opened_at, error.is_refusal(), &why);
         self.add_reason(self.at, &why);
         if self.servers.are_several() {
             let text = format!("{why}: it is left out for {:.1} s", pause.as_secs_f64());
@@ -236,7 +236,7 @@ impl<T> Carrier<T> {
         let mut last = None;
         while last.is_none() || !self.time.is_over() {
             let Some(at) = self.servers.next(&self.tried) else { break };
-            self.at = at;
+            (self.at, self.opened_at) = (at, Instant::now());
             let share = self.share(Some(CONNECT));
             let open = self.open.as_mut().ok_or_else(Error::closed)?;
             match open(&self.servers.all[at], share) {

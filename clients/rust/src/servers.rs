@@ -230,13 +230,24 @@ impl Servers {
         Some(found)
     }
 
-    /// It has failed: for how long it is left out.
-    pub(crate) fn failed(&self, which: usize, refuses: bool, why: &str) -> Duration {
+    /// A stream of it has failed, or the try of one, that began at this time: for how long it is left
+    /// out. All streams that a server had end with it, and that is one failure: what began before the
+    /// last one has failed with it.
+    pub(crate) fn failed(
+        &self,
+        which: usize,
+        began: Instant,
+        refuses: bool,
+        why: &str,
+    ) -> Duration {
         let mut byte = [128];
         // (without random bytes it is the pause itself)
         let _ = library::random(&mut byte);
         let mut states = self.states();
         let (state, now) = (&mut states.of[which], Instant::now());
+        if state.failures > 0 && state.failed_at.is_some_and(|at| began < at) {
+            return state.out(now);
+        }
         let pause = pause_after(state.failures, byte[0]);
         state.failures = state.failures.saturating_add(1);
         state.refuses = refuses;
@@ -345,15 +356,16 @@ mod tests {
         let not = |tried: &[usize]| [0, 1, 2].map(|at| tried.contains(&at));
         let next = |tried: &[usize]| servers.next(&not(tried));
         assert_eq!([next(&[]), next(&[0]), next(&[0, 1, 2])], [Some(0), Some(1), None]);
-        let pause = servers.failed(0, false, "why").as_secs_f64();
+        let fails = |at, refuses| servers.failed(at, Instant::now(), refuses, "why");
+        let pause = fails(0, false).as_secs_f64();
         assert!((0.8..=1.2).contains(&pause), "{pause}");
         let out = servers.out(0);
         assert!(!out.time.is_zero() && out.why == "why" && !out.refuses);
         assert_eq!(next(&[]), Some(1));
         for _ in 0..2 {
-            servers.failed(1, false, "why");
+            fails(1, false);
         }
-        servers.failed(2, true, "why");
+        fails(2, true);
         // All are left out: the soonest, but not one that refused the certificate.
         assert_eq!([next(&[]), next(&[0, 1])], [Some(0), None]);
         // One call goes to see; the others have others.
@@ -366,12 +378,28 @@ mod tests {
     fn what_was_since_then() {
         let servers = Servers::of_texts(["a,b"]).unwrap();
         let before = Instant::now();
-        servers.failed(0, false, "why");
+        servers.failed(0, before, false, "why");
         servers.answered(1);
         assert!(servers.failed_since(0, before) && !servers.answered_since(0, before));
         assert!(servers.answered_since(1, before) && !servers.failed_since(1, before));
         let after = Instant::now() + Duration::from_secs(1);
         assert!(!servers.failed_since(0, after) && !servers.answered_since(1, after));
+    }
+
+    #[test]
+    fn all_streams_that_end_with_their_server_are_one_failure() {
+        let servers = Servers::of_texts(["a,b"]).unwrap();
+        let began = Instant::now();
+        for _ in 0..40 {
+            assert!(servers.failed(0, began, false, "why").as_secs_f64() <= 1.2);
+        }
+        assert_eq!(servers.states().of[0].failures, 1);
+        // One that began since then has failed by itself.
+        assert!(servers.failed(0, Instant::now(), false, "why").as_secs_f64() >= 1.6);
+        assert_eq!(servers.states().of[0].failures, 2);
+        // That of a server which has answered since then is a first one.
+        servers.answered(0);
+        assert!(servers.failed(0, began, false, "why").as_secs_f64() <= 1.2);
     }
 
     #[test]

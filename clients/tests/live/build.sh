@@ -131,6 +131,13 @@ built_is 'build.sh --command' 0 --unproved --command 'the command'
 verdict 'makes the command, its pages and the encoder'
 built_is 'a program and a library that were built before' 0 --library ready.a fourth --program second/kmip_call
 version_is 'of a library that was given its proof is not known' fourth '^[0-9.]+, proof unknown$'
+cp "$(type -P sleep)" running && mv running fourth/kmip_call
+fourth/kmip_call 60 &
+started+=($!)
+built_is 'build.sh: over a program that runs' 0 --library ready.a fourth --program second/kmip_call
+kill -0 $! && cmp second/kmip_call fourth/kmip_call >"$said" 2>&1
+verdict 'it runs on, and another is there'
+kill $!
 printf 'char kmip_not_proved[1];\n' >note.c && gcc -c note.c && ar rc noted.a library.o note.o
 built_is 'a library that has the note of build.py --unproved' 0 --library noted.a fourth --program second/kmip_call
 version_is 'is said to be not proved' fourth '^[0-9.]+, not proved$'
